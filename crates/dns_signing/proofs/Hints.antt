@@ -6,7 +6,8 @@ use Rattle.dns_service.specs.Req.{Req}
 use Rattle.dns_service.specs.Transport.{hint_of, hinted, limit, limit_over}
 use Rattle.dns_tsig.specs.Found.{Signed}
 use Rattle.dns_tsig.specs.Keys.{KeyParts}
-use Rattle.dns_signing.specs.Layer.{Policy, clock, room_of, signer_of}
+use Rattle.dns_signing.specs.Layer.{Policy, clock, signer_of}
+use Rattle.dns_signing.specs.Room.{room_of}
 use Rattle.dns_signing.specs.SignedReplies.{SignerParts}
 
 same_limit : (t : TransportSpecificContext) (h : Option ℕ) → limit_over t (limit (hint_of (hinted h t))) ≡ limit_over t (limit h)

@@ -1,19 +1,19 @@
 -- A service whose signed requests are verified, handed on without their TSIG, and answered by signed replies (RFC 8945, sections 5.2
 -- and 5.3).
-use Rattle.std.specs.Prelude.{ℕ, ◌-◌, false, List, [], min, Option, Some, None, Result, Ok, Err}
+use Rattle.std.specs.Prelude.{ℕ, false, List, [], min, Option, Some, None, Result, Ok, Err}
 use Rattle.dns_base.specs.Msg.{Msg}
 use Rattle.dns_service.specs.Answer.{Answer}
-use Rattle.dns_service.specs.ErrorReply.{error_reply}
 use Rattle.dns_service.specs.Once.{once}
-use Rattle.dns_service.specs.Req.{Req, hint_at_entry, with_metadata}
+use Rattle.dns_service.specs.Req.{Req, with_metadata}
 use Rattle.dns_service.specs.Transport.{limit, limit_over}
 use Rattle.dns_tsig.specs.declared.error.TsigError.{TsigError}
 use Rattle.dns_tsig.specs.Codes.{rcode_of}
 use Rattle.dns_tsig.specs.Found.{Signed, found}
 use Rattle.dns_tsig.specs.Keys.{KeyParts, key_for}
 use Rattle.dns_tsig.specs.Verdicts.{message_refusal}
+use Rattle.dns_signing.specs.ErrorResponse.{error_within}
 use Rattle.dns_signing.specs.Refused.{RefusalParts, refusal_reply, unknown_reply}
-use Rattle.dns_signing.specs.Room.{tsig_size}
+use Rattle.dns_signing.specs.Room.{own_size, room_of}
 use Rattle.dns_signing.specs.SignedReplies.{SignerParts, signed_answers}
 
 -- the keys, the octets that a MAC has at least, and the fudge of the replies
@@ -33,14 +33,6 @@ clock r = min r.received_secs 281474976710655
 abbrev pub taken_off : {M : Type 0} → Req M → Signed → ℕ → Req (Option ℕ)
 taken_off r s n = with_metadata (record r { octets = s.bare }) (Some n)
 
--- the octets that a reply may have, and those before its TSIG
-abbrev pub size_within : Option ℕ → ℕ
-size_within None = 65535
-size_within (Some n) = n
-
-abbrev pub room_of : KeyParts → Option ℕ → ℕ
-room_of k limit = size_within limit - tsig_size k
-
 -- what signs the replies to a request, by the hint that the inner service leaves
 abbrev pub signer_of : {M : Type 0} → Policy → KeyParts → Req M → Signed → Option ℕ → SignerParts
 signer_of p k r s hint = record {
@@ -57,9 +49,9 @@ signer_of p k r s hint = record {
 abbrev pub sole : Msg → ℕ → Answer
 sole m = once (Ok (record { response = Some m; feedback = None }))
 
--- what a refusal is made of: the request's octets, how many its reply may have, the time, the fudge, and the request's TSIG
+-- what a refusal is made of
 abbrev pub refusal_of : {M : Type 0} → ℕ → Req M → Signed → RefusalParts
-refusal_of fudge r s = record { octets = r.octets; size = size_within (limit_over r.transport (limit (hint_at_entry r))); now = clock r; fudge = fudge; tsig = s.tsig }
+refusal_of fudge r s = record { octets = r.octets; size = own_size r; now = clock r; fudge = fudge; tsig = s.tsig }
 
 module _ (answer : Req (Option ℕ) → ℕ → Answer) (hint : Req (Option ℕ) → Option ℕ) (p : Policy) where
   -- by what comes of the message under the key that its TSIG names
@@ -76,7 +68,7 @@ module _ (answer : Req (Option ℕ) → ℕ → Answer) (hint : Req (Option ℕ)
   abbrev pub by_octets : {M : Type 0} → Req M → Result (Option Signed) TsigError → ℕ → Answer
   by_octets r (Ok None) = answer (with_metadata r None)
   by_octets r (Ok (Some s)) = by_key r s (key_for p.keys s.tsig)
-  by_octets r (Err e) = sole (error_reply r.octets (rcode_of e))
+  by_octets r (Err e) = sole (error_within (own_size r) r.octets (rcode_of e))
 
   abbrev pub tsig_answer : {M : Type 0} → Req M → ℕ → Answer
   tsig_answer r = by_octets r (found r.octets)

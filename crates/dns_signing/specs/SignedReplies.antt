@@ -6,7 +6,6 @@ use Rattle.dns_base.specs.Msg.{Msg}
 use Rattle.dns_base.specs.Wire.{wire}
 use Rattle.dns_service.specs.Answer.{Answer, Item, mapped}
 use Rattle.dns_service.specs.Cut.{cut}
-use Rattle.dns_service.specs.ErrorReply.{error_reply}
 use Rattle.dns_service.specs.Errors.{rcode_of}
 use Rattle.dns_service.specs.declared.service.Polled.TheVariants.{Pending, Ready}
 use Rattle.dns_service.specs.declared.service.ServiceError.{ServiceError}
@@ -17,6 +16,7 @@ use Rattle.dns_tsig.specs.Tsig.{tsig_record}
 use Rattle.dns_tsig.specs.Signed.{tsig_by}
 use Rattle.dns_tsig.specs.Sending.{code_behind}
 use Rattle.dns_tsig.specs.Streams.{chain_at}
+use Rattle.dns_signing.specs.ErrorResponse.{error_response}
 
 -- what signs: a key, a stamp, how many octets a reply may have before its TSIG, the MAC before, whether a reply was signed already,
 -- the octets of the request, and whether its service has failed
@@ -55,7 +55,7 @@ signed p m = signed_whole p (cut p.room m)
 
 -- an error of the service is answered by the error reply, signed too; it ends the transaction
 abbrev pub error_of : SignerParts → ServiceError → Msg
-error_of p error = error_reply p.request (rcode_of error)
+error_of p error = error_response p.request (rcode_of error)
 
 abbrev pub signed_item : SignerParts → Item → Item
 signed_item p (Ok given) = Ok (record given { response = option_map (signed p) given.response })
@@ -86,3 +86,18 @@ behind_answer p a = if p.ended then p else behind_polled p a
 abbrev pub signed_answers : (ℕ → Answer) → SignerParts → ℕ → Answer
 signed_answers answers p zero = signed_answer p (answers 0)
 signed_answers answers p (suc k) = signed_answers (λ n. answers (suc n)) (behind_answer p (answers 0)) k
+
+-- replies that a service gives at once, one at each poll, and then the end
+abbrev pub given : List Msg → ℕ → Answer
+given [] k = Ready None
+given (m ∷ more) zero = Ready (Some (Ok (record { response = Some m; feedback = None })))
+given (m ∷ more) (suc k) = given more k
+
+-- replies as they are sent, each signed behind the one before
+abbrev pub signed_replies : SignerParts → List Msg → List Msg
+signed_replies p [] = []
+signed_replies p (m ∷ more) = signed p m ∷ signed_replies (behind_reply p (Some m)) more
+
+-- a reply as it is signed, with its stamp
+abbrev pub stamped : SignerParts → Msg → Option Stamp × Msg
+stamped p m = (Some p.stamp, cut p.room m)

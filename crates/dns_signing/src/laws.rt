@@ -1,38 +1,52 @@
 //! Laws of signed replies.
 
-ghost use Rattle.std.specs.Prelude.{◌≡◌, ◌≤◌, ◌+◌, ℕ, [], length, Option, Some, None, Ok, false};
+ghost use Rattle.std.specs.Prelude.{◌≡◌, ◌≤◌, ◌+◌, ℕ, List, [], length, Option, Some, None, Ok, false};
+ghost use Rattle.std.specs.List.{AllByRecursion};
 ghost use Rattle.dns_base.specs.Msg.{Msg};
 ghost use Rattle.dns_base.specs.Wire.{wire};
 ghost use Rattle.dns_service.specs.Answer.{Answer};
-ghost use Rattle.dns_service.specs.Cut.{cut};
 ghost use Rattle.dns_service.specs.Req.{Req, with_metadata};
+ghost use Rattle.dns_service.specs.Transport.{limit, limit_over};
 ghost use Rattle.dns_hmac.specs.Digests.{size_of};
 ghost use Rattle.dns_name.specs.Labels.{IsName};
 ghost use Rattle.dns_tsig.specs.Found.{Signed, found};
 ghost use Rattle.dns_tsig.specs.Keys.{KeyParts, key_for};
 ghost use Rattle.dns_tsig.specs.Messages.{IsBare};
-ghost use Rattle.dns_tsig.specs.Signed.{tsig_by};
 ghost use Rattle.dns_tsig.specs.Verdicts.{message_refusal};
-ghost use Rattle.dns_tsig.specs.Verified.{Verifies};
+ghost use Rattle.dns_signing.specs.Clients.{HasRoom, IsAtClient, VerifiesFirst, chain_after, client_takes, signed_cut};
 ghost use Rattle.dns_signing.specs.Layer.{Policy, clock, refusal_of, signer_of, sole, taken_off, tsig_answer};
 ghost use Rattle.dns_signing.specs.Refused.{unknown_reply};
-ghost use Rattle.dns_signing.specs.Room.{tsig_size};
-ghost use Rattle.dns_signing.specs.SignedReplies.{SignerParts, code_of, signed, signed_answers, signed_message};
+ghost use Rattle.dns_signing.specs.Room.{size_within, tsig_size};
+ghost use Rattle.dns_signing.specs.SignedReplies.{SignerParts, given, signed, signed_answers, signed_replies};
 
-use dns_tsig::signed_messages_verify;
+use dns_service::cut_fits;
+use dns_tsig::{signed_messages_verify, signed_streams_are_taken};
 
-/// A reply that fits its room once it is cut is signed, and takes no more than that room and a TSIG.
+/// A reply is cut to what leaves room for its TSIG, then signed, and then it fits. What signs the replies to a request has such
+/// room: what the transport allows, less the TSIG.
 pub fn signed_replies_fit()
-    ensures signed { (p : SignerParts) (m : Msg) → length (wire (cut p.room m)) ≤ p.room → p.room + tsig_size p.key ≤ 65535 → signed p m ≡ signed_message p (code_of p (cut p.room m)) (cut p.room m) }
-    ensures fits { (p : SignerParts) (m : Msg) → length (wire (cut p.room m)) ≤ p.room → p.room + tsig_size p.key ≤ 65535 → length (wire (signed p m)) ≤ p.room + tsig_size p.key }
+    ensures signed { (p : SignerParts) (m : Msg) → HasRoom p → signed p m ≡ signed_cut p m }
+    ensures fits { (p : SignerParts) (m : Msg) → HasRoom p → length (wire (signed p m)) ≤ p.room + tsig_size p.key }
+    ensures room { (p : Policy) (k : KeyParts) (r : Req (Unit {0})) (s : Signed) (hint : Option ℕ) → IsName k.name → limit hint ≤ 65535 → HasRoom (signer_of p k r s hint) }
+    ensures whole { (p : Policy) (k : KeyParts) (r : Req (Unit {0})) (s : Signed) (hint : Option ℕ) → IsName k.name → (signer_of p k r s hint).room + tsig_size k ≡ size_within (limit_over r.transport (limit hint)) }
 {}
 
 /// The first reply to a request verifies at its client, under the key and behind the request's MAC, at every time within the
 /// fudge; and the client has the reply as it was before.
 pub fn signed_replies_verify()
-    ensures { (p : SignerParts) (m : Msg) (least now : ℕ) → p.begun ≡ false → IsBare m → IsName p.key.name → least ≤ size_of p.key.algorithm → p.stamp.time ≤ now + p.stamp.fudge → now ≤ p.stamp.time + p.stamp.fudge → Verifies p.key least now p.prior (wire m) (wire (signed_message p (code_of p m) m)) (tsig_by p.key p.stamp (wire m) [] (code_of p m)) }
+    ensures { (p : SignerParts) (m : Msg) (least now : ℕ) → IsAtClient p now → IsBare m → least ≤ size_of p.key.algorithm → VerifiesFirst p least now m }
 {
     signed_messages_verify();
+}
+
+/// The replies to a request, as many as a transfer has, are taken by its client one behind the other, while the clocks agree
+/// within the fudge. Replies that a service gives are sent as `signed_replies` has them.
+pub fn signed_transfers_are_taken()
+    ensures taken { (p : SignerParts) (now : ℕ) (replies : List Msg) → IsAtClient p now → HasRoom p → AllByRecursion IsBare replies → client_takes p now replies ≡ Ok (chain_after p replies) }
+    ensures sent { (p : SignerParts) (replies : List Msg) (k : ℕ) → p.ended ≡ false → signed_answers (given replies) p k ≡ given (signed_replies p replies) k }
+{
+    cut_fits();
+    signed_streams_are_taken();
 }
 
 /// A request without a TSIG is answered as the service inside answers it.

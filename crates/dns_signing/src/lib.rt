@@ -32,16 +32,18 @@
 //! A TSIG that doesn't fit into a reply that refuses a request is left out of it.
 #![tactic(auto)]
 
+mod error_response;
 mod laws;
 mod refusing;
+mod room;
 mod signed_stream;
 mod signer;
 mod tsig_layer;
 
 pub use dns_tsig::{Algorithm, Key, KeyStore};
 pub use laws::{
-    signed_replies_fit, signed_replies_verify, unknown_keys_are_refused,
-    unsigned_requests_are_as_before, verified_requests_are_signed_back,
+    signed_replies_fit, signed_replies_verify, signed_transfers_are_taken,
+    unknown_keys_are_refused, unsigned_requests_are_as_before, verified_requests_are_signed_back,
 };
 pub use signed_stream::SignedStream;
 pub use signer::Signer;

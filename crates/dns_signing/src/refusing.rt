@@ -1,15 +1,17 @@
 //! Replies that refuse a request.
 
-ghost use Rattle.std.specs.Prelude.{◌≡◌, ◌<◌, ◌^◌, IfOk, OnOk};
+ghost use Rattle.std.specs.Prelude.{◌≡◌, ◌<◌, ◌-◌, ◌^◌, IfOk, OnOk};
 ghost use Rattle.dns_base.specs.Records.{IsLawful, record_of};
-ghost use Rattle.dns_service.specs.Req.{hint_at_entry};
-ghost use Rattle.dns_service.specs.Transport.{limit, limit_over};
-ghost use Rattle.dns_signing.specs.Layer.{clock, refusal_of, size_within};
+ghost use Rattle.dns_signing.specs.ErrorResponse.{error_within};
+ghost use Rattle.dns_signing.specs.Layer.{clock, refusal_of};
 ghost use Rattle.dns_signing.specs.Refused.{refusal_reply, signed_reply, unsigned_reply, with_record_within};
+ghost use Rattle.dns_signing.specs.Room.{own_size};
 
+use crate::error_response::error_within;
+use crate::room::{other_len, own_size, tsig_size, unsigned_size};
 use dns_base::{AdditionalBuilder, PushError, Record};
 use dns_name::OptRcode;
-use dns_service::{OutOfMemory, Request, limit_over, mk_error_response};
+use dns_service::{OutOfMemory, Request};
 use dns_tsig::{Key, Signed, TsigError, signed_refusal, unsigned_refusal};
 use std::alloc::Global;
 
@@ -25,7 +27,14 @@ pub(crate) fn refusal_reply(
     ensures { IfOk result (λ b. b.message ≡ refusal_reply (refusal_of fudge request.now signed.now) key.now error) }
 {
     match error {
-        TsigError::FormErr => mk_error_response(alloc, request.message(), OptRcode::FORMERR),
+        TsigError::FormErr => {
+            error_within(
+                alloc,
+                request.message(),
+                OptRcode::FORMERR,
+                own_size(request),
+            )
+        }
         TsigError::BadKey => unsigned_reply(alloc, request, signed, error, fudge),
         TsigError::BadSig => unsigned_reply(alloc, request, signed, error, fudge),
         TsigError::BadTime => signed_reply(alloc, request, signed, key, error, fudge),
@@ -43,11 +52,12 @@ pub(crate) fn unsigned_reply(
 ) -> Result<AdditionalBuilder, OutOfMemory>
     ensures { IfOk result (λ b. b.message ≡ unsigned_reply (refusal_of fudge request.now signed.now) error) }
 {
-    let mut reply = mk_error_response(alloc, request.message(), OptRcode::NOTAUTH)?;
     let tsig = signed.tsig();
+    let taken = unsigned_size(alloc, tsig)?;
+    let mut reply = not_auth(alloc, request, taken)?;
     let now = clock(request);
     let added = unsigned_refusal(alloc, tsig, error, now, fudge, reply.as_slice())?;
-    push_within(alloc, size_within(request), &added, &mut reply)?;
+    push_within(alloc, own_size(request), &added, &mut reply)?;
     Ok(reply)
 }
 
@@ -62,12 +72,25 @@ fn signed_reply(
 ) -> Result<AdditionalBuilder, OutOfMemory>
     ensures { IfOk result (λ b. b.message ≡ signed_reply (refusal_of fudge request.now signed.now) key.now error) }
 {
-    let mut reply = mk_error_response(alloc, request.message(), OptRcode::NOTAUTH)?;
+    let taken = tsig_size(key) + other_len(error);
+    let mut reply = not_auth(alloc, request, taken)?;
     let tsig = signed.tsig();
     let now = clock(request);
     let added = signed_refusal(alloc, key, tsig, error, now, fudge, reply.as_slice())?;
-    push_within(alloc, size_within(request), &added, &mut reply)?;
+    push_within(alloc, own_size(request), &added, &mut reply)?;
     Ok(reply)
+}
+
+/// NOTAUTH, truncated where it leaves no room for a TSIG of so many octets (RFC 8945, section 5.3).
+fn not_auth(
+    alloc: Global,
+    request: &Request<()>,
+    taken: u16,
+) -> Result<AdditionalBuilder, OutOfMemory>
+    ensures { IfOk result (λ b. b.message ≡ error_within (own_size request.now - taken) request.now.octets 9) }
+{
+    let room = own_size(request).saturating_sub(taken);
+    error_within(alloc, request.message(), OptRcode::NOTAUTH, room)
 }
 
 /// Adds a TSIG record to a reply, unless the reply would then have more than so many octets.
@@ -93,12 +116,4 @@ pub(crate) fn clock(request: &Request<()>) -> u64
     ensures fits { result < 2 ^ 48 }
 {
     request.received_secs().min(281474976710655)
-}
-
-/// How many octets a reply that refuses a request may have.
-fn size_within(request: &Request<()>) -> u16
-    ensures { result ≡ size_within (limit_over request.now.transport (limit (hint_at_entry request.now))) }
-{
-    let transport = request.transport_ctx();
-    limit_over(transport, transport.hint()).unwrap_or(65535)
 }

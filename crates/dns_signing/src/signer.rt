@@ -7,11 +7,11 @@ ghost use Rattle.dns_tsig.specs.Sending.{code_behind};
 ghost use Rattle.dns_tsig.specs.Streams.{chain_at};
 ghost use Rattle.dns_signing.specs.SignedReplies.{behind_answer, behind_item, behind_reply, code_of, signed, signed_answer, signed_item, signed_whole, with_code};
 
+use crate::error_response::error_response;
 use dns_base::{AdditionalBuilder, Message, PushError};
 use dns_name::OptRcode;
 use dns_service::{
     CallResult, OutOfMemory, Polled, ServiceError, ServiceFeedback, ServiceResult, cut,
-    mk_error_response,
 };
 use dns_tsig::{Key, Mac, Stamp, stream_code, tsig_record};
 use std::alloc::Global;
@@ -116,7 +116,7 @@ impl Signer {
         ensures behind { OnOk result (self.new ≡ behind_item self.old (Err error)) }
     {
         let rcode = OptRcode::from(error.rcode());
-        let mut reply = mk_error_response(alloc, &self.request, rcode)?;
+        let mut reply = error_response(alloc, &self.request, rcode)?;
         self.sign_reply(alloc, &mut reply)?;
         self.ended = true;
         Ok(CallResult::new(reply).with_feedback(ServiceFeedback::EndTransaction))

@@ -2,28 +2,28 @@
 
 ghost use Rattle.std.specs.Prelude.{◌≡◌, ◌≤◌, ◌<◌, ◌^◌, ℕ, [], IfOk, Ok, Option, Some, None, length, option_map};
 ghost use Rattle.std.specs.Arc.{arc_value};
-ghost use Rattle.dns_name.specs.Labels.{spell};
 ghost use Rattle.dns_service.specs.Req.{hint_at_entry, with_metadata};
 ghost use Rattle.dns_tsig.specs.Codes.{rcode_of};
-ghost use Rattle.dns_tsig.specs.Keys.{algorithm_name, key_for};
+ghost use Rattle.dns_tsig.specs.Keys.{key_for};
 ghost use Rattle.dns_tsig.specs.Verdicts.{message_refusal};
-ghost use Rattle.dns_signing.specs.Layer.{by_key, by_octets, clock, policy, refusal_of, room_of, signer_of, size_within, sole, taken_off, tsig_answer, verified};
-ghost use Rattle.dns_service.specs.ErrorReply.{error_reply};
+ghost use Rattle.dns_signing.specs.Layer.{by_key, by_octets, clock, policy, refusal_of, signer_of, sole, taken_off, tsig_answer, verified};
+ghost use Rattle.dns_signing.specs.ErrorResponse.{error_within};
 ghost use Rattle.dns_signing.specs.Refused.{refusal_reply, unknown_reply};
-ghost use Rattle.dns_signing.specs.Room.{tsig_size};
+ghost use Rattle.dns_signing.specs.Room.{own_size};
 ghost use Rattle.dns_signing.specs.SignedReplies.{signed_answers};
 
+use crate::error_response::error_within;
 use crate::refusing::{clock, refusal_reply, unsigned_reply};
+use crate::room::{own_size, room_of};
 use crate::signed_stream::SignedStream;
 use crate::signer::Signer;
 use dns_base::{AdditionalBuilder, Message};
 use dns_name::OptRcode;
 use dns_service::{
     CallResult, Now, Once, OutOfMemory, ReplyFuture, ReplyStream, Request, Service, limit_over,
-    mk_error_response,
 };
 use dns_stream::MiddlewareStream;
-use dns_tsig::{Algorithm, Key, KeyStore, Signed, Stamp, TsigError, find};
+use dns_tsig::{Key, KeyStore, Signed, Stamp, TsigError, find};
 use std::alloc::Global;
 use std::sync::Arc;
 
@@ -210,9 +210,10 @@ fn plain<S: Service<Option<usize>>>(
     request: &Request<()>,
     error: TsigError,
 ) -> Result<Answered<S>, OutOfMemory>
-    ensures { IfOk result (λ f. (k : ℕ) → ⟦<Answered<S> as ReplyStream>⟧.answer f k ≡ sole (error_reply request.now.octets (rcode_of error)) k) }
+    ensures { IfOk result (λ f. (k : ℕ) → ⟦<Answered<S> as ReplyStream>⟧.answer f k ≡ sole (error_within (own_size request.now) request.now.octets (rcode_of error)) k) }
 {
-    let reply = mk_error_response(alloc, request.message(), OptRcode::from(error.rcode()))?;
+    let rcode = OptRcode::from(error.rcode());
+    let reply = error_within(alloc, request.message(), rcode, own_size(request))?;
     Ok(sole::<S>(reply))
 }
 
@@ -267,31 +268,4 @@ fn taken_off(
     )?;
     inner.set_reserved_bytes(request.num_reserved_bytes());
     Ok(inner)
-}
-
-/// The octets that a reply may have before its TSIG.
-fn room_of(key: &Key, limit: Option<u16>) -> u16
-    ensures { result ≡ room_of key.now limit }
-{
-    limit.unwrap_or(65535).saturating_sub(tsig_size(key))
-}
-
-/// The octets of a TSIG of a key.
-fn tsig_size(key: &Key) -> u16
-    ensures { result ≡ tsig_size key.now }
-{
-    let names = key.name().compose_len() + algorithm_len(key.algorithm());
-    names + key.algorithm().digest_len() as u16 + 26
-}
-
-/// The octets of an algorithm's name.
-fn algorithm_len(algorithm: Algorithm) -> u16
-    ensures { result ≡ length (spell (algorithm_name algorithm)) }
-{
-    match algorithm {
-        Algorithm::Sha1 => 11,
-        Algorithm::Sha256 => 13,
-        Algorithm::Sha384 => 13,
-        Algorithm::Sha512 => 13,
-    }
 }

@@ -5,5 +5,5 @@ use Rattle.dns_signing.proofs.Verifying.{first_signs}
 use Rattle.dns_signing.proofs.laws.signed_replies_verify.Goals as goal
 
 pub returns : goal.returns
-returns c = λ p m least now e bare named long early late.
-    c.signed_messages_verify.ensures p.key p.stamp m p.prior [] (wire (signed_message p (code_of p m) m)) (code_of p m) least now bare named long early late (first_signs p m e)
+returns c = λ p m least now at bare long.
+    c.signed_messages_verify.ensures p.key p.stamp m p.prior [] (wire (signed_message p (code_of p m) m)) (code_of p m) least now bare at.named long at.timely.0 at.timely.1 (first_signs p m at.first)
