@@ -1,6 +1,6 @@
 -- Signed answers are those of the answers that they sign, one by one.
-use Rattle.std.proofs.Common.{◌≡◌, ℕ, zero, suc, Bool, true, false, None, refl, ap, subst, sym, ◌∙◌}
-use Rattle.std.specs.Prelude.{IfOk, Result, if◌then◌else◌}
+use Rattle.std.proofs.Common.{◌≡◌, ℕ, zero, suc, true, None, refl, ap, subst, ◌∙◌}
+use Rattle.std.specs.Prelude.{IfOk, Result}
 use Rattle.dns_service.specs.Answer.{Answer}
 use Rattle.dns_service.specs.declared.service.Polled.TheVariants.{Ready}
 use Rattle.dns_signing.specs.SignedReplies.{SignerParts, behind_answer, signed_answer, signed_answers}

@@ -1,10 +1,8 @@
 -- Replies that are sent one behind the other.
-use Rattle.std.proofs.Common.{◌≡◌, ℕ, zero, suc, ◌+◌, ◌≤◌, Bool, true, false, List, [], ◌∷◌, map, Option, Some, None, Ok, refl, ap, ◌∙◌}
-use Rattle.std.specs.Prelude.{if◌then◌else◌}
+use Rattle.std.proofs.Common.{◌≡◌, ℕ, zero, suc, Bool, true, false, List, [], ◌∷◌, map, Some, None, refl, ap, ◌∙◌}
 use Rattle.std.specs.List.{AllByRecursion}
 use Rattle.dns_base.specs.Msg.{IsMessage, Msg}
 use Rattle.dns_base.specs.Wire.{wire}
-use Rattle.dns_service.specs.Answer.{Answer}
 use Rattle.dns_service.specs.Cut.{cut}
 use Rattle.dns_service.specs.declared.service.Polled.TheVariants.{Ready}
 use Rattle.dns_tsig.specs.Messages.{IsBare}
@@ -12,7 +10,7 @@ use Rattle.dns_tsig.specs.Sending.{IsStream, IsTimely, sent}
 use Rattle.dns_tsig.specs.Signed.{tsig_by, with_tsig}
 use Rattle.dns_tsig.specs.Streams.{chain_at}
 use Rattle.dns_signing.specs.Clients.{HasRoom}
-use Rattle.dns_signing.specs.SignedReplies.{SignerParts, behind_answer, behind_reply, code_of, given, signed, signed_answer, signed_answers, signed_replies, stamped}
+use Rattle.dns_signing.specs.SignedReplies.{SignerParts, behind_answer, behind_reply, code_of, given, signed, signed_answers, signed_replies, stamped}
 use Rattle.dns_signing.proofs.Cutting.{cut_bare}
 use Rattle.dns_signing.proofs.Rooms.{is_signed}
 use Rattle.dns_signing.proofs.Verifying.{wire_more}
@@ -33,7 +31,7 @@ module _ (lawful : (n : ℕ) (m : Msg) → IsMessage m → IsMessage (cut n m)) 
 
   pub is_stream : (p : SignerParts) (now : ℕ) (b : Bool) (ms : List Msg) → IsTimely now p.stamp → AllByRecursion IsBare ms → IsStream now b 0 (map (stamped p) ms)
   is_stream p now b [] t h = tt
-  is_stream p now b (m ∷ ms) t h = (cut_is_bare p.room m h.0, (t, is_stream p now true ms t h.1))
+  is_stream p now b (m ∷ ms) t h = (cut_is_bare p.room m h.0, t, is_stream p now true ms t h.1)
 
 -- the answers of a stream of replies are those replies
 pub as_given : (p : SignerParts) (ms : List Msg) (k : ℕ) → p.ended ≡ false → signed_answers (given ms) p k ≡ given (signed_replies p ms) k

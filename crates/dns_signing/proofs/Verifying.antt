@@ -1,12 +1,11 @@
 -- What a client makes of a signed reply.
-use Rattle.std.proofs.Common.{◌≡◌, ℕ, ◌+◌, ◌*◌, ◌/◌, ◌%◌, ◌≤◌, Bool, true, false, List, [], ◌∷◌, ◌++◌, length, take, drop, refl, ap, sym, ◌∙◌, arith, length-append, append_assoc, append-nil}
+use Rattle.std.proofs.Common.{◌≡◌, ℕ, ◌+◌, ◌*◌, ◌/◌, ◌%◌, Bool, false, List, [], ◌∷◌, ◌++◌, length, take, ap, sym, ◌∙◌, arith, length-append, append_assoc, append-nil}
 use Rattle.std.specs.List.{flat_map}
 use Rattle.std.proofs.lemmas.List.Concat.{flat_map-append}
 use Rattle.dns_name.specs.Place.{two}
 use Rattle.dns_base.specs.Msg.{Msg, ResourceRecord}
 use Rattle.dns_base.specs.Sections.{field}
 use Rattle.dns_base.specs.Wire.{body, question_octets, record_octets, wire}
-use Rattle.dns_tsig.specs.Keys.{mac_of}
 use Rattle.dns_tsig.specs.Sending.{code_behind}
 use Rattle.dns_tsig.specs.Signed.{Signs, tsig_by, with_tsig}
 use Rattle.dns_tsig.specs.Streams.{chain_at}
@@ -28,7 +27,7 @@ body_more m r =
     let joined : (fq ++ (fa ++ (fu ++ fd))) ++ o ≡ fq ++ (fa ++ (fu ++ (fd ++ o))) = append_assoc fq (fa ++ (fu ++ fd)) o ∙ ap (λ (xs : List ℕ). fq ++ xs) (append_assoc fa (fu ++ fd) o ∙ ap (λ (xs : List ℕ). fa ++ xs) (append_assoc fu fd o)) in
     ap (λ (xs : List ℕ). fq ++ (fa ++ (fu ++ xs))) last ∙ sym joined
 
-wire_more : (m : Msg) (t : Tsig) → wire (record m { additional = m.additional ++ tsig_record t ∷ [] }) ≡ with_tsig (wire m) t
+pub wire_more : (m : Msg) (t : Tsig) → wire (record m { additional = m.additional ++ tsig_record t ∷ [] }) ≡ with_tsig (wire m) t
 unfolding wire
 wire_more m t =
     let r = tsig_record t in

@@ -9,14 +9,15 @@ ghost use Rattle.dns_service.specs.Req.{Req, with_metadata};
 ghost use Rattle.dns_service.specs.Transport.{limit, limit_over};
 ghost use Rattle.dns_hmac.specs.Digests.{size_of};
 ghost use Rattle.dns_name.specs.Labels.{IsName};
+ghost use Rattle.dns_tsig.specs.declared.error.TsigError.{TsigError};
 ghost use Rattle.dns_tsig.specs.Found.{Signed, found};
 ghost use Rattle.dns_tsig.specs.Keys.{KeyParts, key_for};
 ghost use Rattle.dns_tsig.specs.Messages.{IsBare};
 ghost use Rattle.dns_tsig.specs.Verdicts.{message_refusal};
 ghost use Rattle.dns_signing.specs.Clients.{HasRoom, IsAtClient, VerifiesFirst, chain_after, client_takes, signed_cut};
 ghost use Rattle.dns_signing.specs.Layer.{Policy, clock, refusal_of, signer_of, sole, taken_off, tsig_answer};
-ghost use Rattle.dns_signing.specs.Refused.{unknown_reply};
-ghost use Rattle.dns_signing.specs.Room.{size_within, tsig_size};
+ghost use Rattle.dns_signing.specs.Refused.{RefusalParts, refusal_reply, signed_reply, unknown_reply, with_tsig_signed};
+ghost use Rattle.dns_signing.specs.Room.{own_size, size_within, tsig_size};
 ghost use Rattle.dns_signing.specs.SignedReplies.{SignerParts, given, signed, signed_answers, signed_replies};
 
 use dns_service::cut_fits;
@@ -29,6 +30,14 @@ pub fn signed_replies_fit()
     ensures fits { (p : SignerParts) (m : Msg) → HasRoom p → length (wire (signed p m)) ≤ p.room + tsig_size p.key }
     ensures room { (p : Policy) (k : KeyParts) (r : Req (Unit {0})) (s : Signed) (hint : Option ℕ) → IsName k.name → limit hint ≤ 65535 → HasRoom (signer_of p k r s hint) }
     ensures whole { (p : Policy) (k : KeyParts) (r : Req (Unit {0})) (s : Signed) (hint : Option ℕ) → IsName k.name → (signer_of p k r s hint).room + tsig_size k ≡ size_within (limit_over r.transport (limit hint)) }
+{}
+
+/// A reply that refuses a request fits what its transport and its client allow, which is never less than 512 octets. One that says
+/// BADTIME or BADTRUNC is always signed.
+pub fn refusals_fit()
+    ensures fits { (p : RefusalParts) (k : KeyParts) (e : TsigError) → 23 ≤ p.size → length (wire (refusal_reply p k e)) ≤ p.size }
+    ensures signed { (p : RefusalParts) (k : KeyParts) (e : TsigError) → IsName k.name → 512 ≤ p.size → signed_reply p k e ≡ with_tsig_signed p k e }
+    ensures least { (r : Req (Unit {0})) → 512 ≤ own_size r }
 {}
 
 /// The first reply to a request verifies at its client, under the key and behind the request's MAC, at every time within the

@@ -8,7 +8,7 @@ ghost use Rattle.dns_signing.specs.Refused.{refusal_reply, signed_reply, unsigne
 ghost use Rattle.dns_signing.specs.Room.{own_size};
 
 use crate::error_response::error_within;
-use crate::room::{other_len, own_size, tsig_size, unsigned_size};
+use crate::room::{own_size, refusal_size, unsigned_size};
 use dns_base::{AdditionalBuilder, PushError, Record};
 use dns_name::OptRcode;
 use dns_service::{OutOfMemory, Request};
@@ -35,10 +35,17 @@ pub(crate) fn refusal_reply(
                 own_size(request),
             )
         }
-        TsigError::BadKey => unsigned_reply(alloc, request, signed, error, fudge),
-        TsigError::BadSig => unsigned_reply(alloc, request, signed, error, fudge),
-        TsigError::BadTime => signed_reply(alloc, request, signed, key, error, fudge),
-        TsigError::BadTrunc => signed_reply(alloc, request, signed, key, error, fudge),
+        TsigError::BadKey => unsigned_reply(alloc, request, signed, TsigError::BadKey, fudge),
+        TsigError::BadSig => unsigned_reply(alloc, request, signed, TsigError::BadSig, fudge),
+        TsigError::BadTime => signed_reply(alloc, request, signed, key, TsigError::BadTime, fudge),
+        TsigError::BadTrunc => signed_reply(
+            alloc,
+            request,
+            signed,
+            key,
+            TsigError::BadTrunc,
+            fudge,
+        ),
     }
 }
 
@@ -72,7 +79,7 @@ fn signed_reply(
 ) -> Result<AdditionalBuilder, OutOfMemory>
     ensures { IfOk result (λ b. b.message ≡ signed_reply (refusal_of fudge request.now signed.now) key.now error) }
 {
-    let taken = tsig_size(key) + other_len(error);
+    let taken = refusal_size(key, error);
     let mut reply = not_auth(alloc, request, taken)?;
     let tsig = signed.tsig();
     let now = clock(request);

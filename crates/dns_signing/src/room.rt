@@ -1,11 +1,11 @@
 //! How many octets replies and TSIGs have.
 
-ghost use Rattle.std.specs.Prelude.{◌≡◌, ℕ, IfOk, length};
+ghost use Rattle.std.specs.Prelude.{◌≡◌, ◌≤◌, ℕ, IfOk, length};
 ghost use Rattle.dns_name.specs.Labels.{spell};
 ghost use Rattle.dns_tsig.specs.Keys.{algorithm_name};
 ghost use Rattle.dns_tsig.specs.Refusals.{other_octets};
 ghost use Rattle.dns_tsig.specs.Tsig.{six};
-ghost use Rattle.dns_signing.specs.Room.{own_size, room_of, tsig_size, unsigned_size};
+ghost use Rattle.dns_signing.specs.Room.{own_size, room_of, size_with, tsig_size, unsigned_size};
 
 use dns_service::{OutOfMemory, Request, limit_over, read_asked, reply_limit};
 use dns_tsig::{Algorithm, Key, TsigError, TsigRef};
@@ -20,7 +20,8 @@ pub(crate) fn room_of(key: &Key, limit: Option<u16>) -> u16
 
 /// The octets of a TSIG of a key, without other data.
 pub(crate) fn tsig_size(key: &Key) -> u16
-    ensures { result ≡ tsig_size key.now }
+    ensures value { result ≡ tsig_size key.now }
+    ensures most { result ≤ 400 }
 {
     let names = key.name().compose_len() + algorithm_len(key.algorithm());
     names + key.algorithm().digest_len() as u16 + 26
@@ -46,13 +47,13 @@ pub(crate) fn unsigned_size(alloc: Global, tsig: &TsigRef<'_>) -> Result<u16, Ou
     Ok(key.compose_len() + tsig.algorithm().compose_len() + 26)
 }
 
-/// The octets of the other data in a reply that refuses a request.
-pub(crate) fn other_len(error: TsigError) -> u16
-    ensures { (now : ℕ) → result ≡ length (other_octets error (six now)) }
+/// The octets of the signed TSIG in a reply that refuses a request.
+pub(crate) fn refusal_size(key: &Key, error: TsigError) -> u16
+    ensures { (now : ℕ) → result ≡ size_with key.now (other_octets error (six now)) }
 {
     match error {
-        TsigError::BadTime => 6,
-        _ => 0,
+        TsigError::BadTime => tsig_size(key) + 6,
+        _ => tsig_size(key),
     }
 }
 

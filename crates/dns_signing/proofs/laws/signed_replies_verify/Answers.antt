@@ -1,4 +1,4 @@
-use Rattle.std.proofs.Common.{◌≡◌, []}
+use Rattle.std.proofs.Common.{[]}
 use Rattle.dns_base.specs.Wire.{wire}
 use Rattle.dns_signing.specs.SignedReplies.{code_of, signed_message}
 use Rattle.dns_signing.proofs.Verifying.{first_signs}

@@ -1,4 +1,4 @@
-use Rattle.std.proofs.Common.{◌≡◌, Bool, false, map, Ok, ap, ◌∙◌}
+use Rattle.std.proofs.Common.{Bool, false, map, Ok, ap, ◌∙◌}
 use Rattle.dns_hmac.specs.Digests.{size_of}
 use Rattle.dns_tsig.specs.Sending.{sent}
 use Rattle.dns_tsig.specs.Streams.{behind_all, chain_at, chain_behind}
