@@ -5,9 +5,9 @@ use Rattle.dns_service.specs.ErrorReply.{error_reply}
 use Rattle.dns_service.specs.Req.{Req}
 use Rattle.dns_service.specs.declared.service.ServiceError.TheVariants.{InternalError}
 
-abbrev pub code_for : Option ℕ → ℕ
-code_for (Some place) = 3
+abbrev pub code_for : {K : Type 0} → Option K → ℕ
+code_for (Some key) = 3
 code_for None = 5
 
-abbrev pub told : Bool → Req (Option ℕ) → Item
+abbrev pub told : {K : Type 0} → Bool → Req (Option K) → Item
 told fails r = if fails then Err InternalError else Ok (record { response = Some (error_reply r.octets (code_for r.metadata)); feedback = None })

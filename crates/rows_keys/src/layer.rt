@@ -32,13 +32,13 @@ impl Calls for Signing {
     }
 }
 
-/// Says NXDOMAIN to a request under a key and REFUSED to one without, or fails.
+/// Says NXDOMAIN to a request under a key, however that is told, and REFUSED to one without, or fails.
 #[derive(Drop)]
 struct Told {
     fails: bool,
 }
 
-impl Service<Option<usize>> for Told {
+impl<K: Drop> Service<Option<K>> for Told {
     type Stream = Once;
 
     type Future = Now<Once>;
@@ -50,7 +50,7 @@ impl Service<Option<usize>> for Told {
     fn call(
         &self,
         alloc: Global,
-        request: &mut Request<Option<usize>>,
+        request: &mut Request<Option<K>>,
     ) -> Result<Now<Once>, OutOfMemory> {
         if self.fails {
             return Ok(Now::new(Once::new(Err(ServiceError::InternalError))));
@@ -62,10 +62,10 @@ impl Service<Option<usize>> for Told {
 }
 
 /// The response code to a request under a key, or to one without.
-fn code_for(place: &Option<usize>) -> OptRcode
-    ensures { result ≡ code_for place.now }
+fn code_for<K>(key: &Option<K>) -> OptRcode
+    ensures { result ≡ code_for key.now }
 {
-    match place {
+    match key {
         Some(_) => OptRcode::NXDOMAIN,
         None => OptRcode::REFUSED,
     }
