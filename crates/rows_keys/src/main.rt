@@ -1,16 +1,19 @@
 //! Rows of keys, signatures and limits, on standard input. `crates/rows_table` says how a row is written.
 //!
 //! - signatures: codes of HMAC, keys, messages that are signed, verified and refused, and streams of them.
+//! - layer: a service whose requests are verified and whose replies are signed.
 //! - limits: accounts, networks, and limits by kind of response.
 //! - often: calls that are made so many times, which bench/tsig times.
 //!
 //! The program prints each row that doesn't hold, and how many there were.
 #![tactic(auto)]
 
+mod layer;
 mod limits;
 mod often;
 mod signatures;
 
+use layer::Signing;
 use limits::Limiting;
 use often::Often;
 use signatures::Signatures;
@@ -18,5 +21,5 @@ use std::io;
 use std::process::ExitCode;
 
 fn main(rt: HostRuntime) -> io::Result<ExitCode> {
-    rows_table::run(&rt, &(Signatures, (Limiting, Often)))
+    rows_table::run(&rt, &((Signatures, Signing), (Limiting, Often)))
 }

@@ -1,0 +1,9 @@
+pub mod Cutting
+pub mod Followed
+pub mod Hints
+pub mod Layers
+pub mod RefusalRooms
+pub mod RefusalMade
+pub mod Rooms
+pub mod Sent
+pub mod Verifying

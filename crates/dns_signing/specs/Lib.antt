@@ -1,0 +1,6 @@
+pub mod ErrorResponse
+pub mod Room
+pub mod SignedReplies
+pub mod Refused
+pub mod Layer
+pub mod Clients
