@@ -26,7 +26,9 @@
 #![tactic(auto)]
 
 mod connections;
+mod datagrams;
 mod handle;
+mod idle_timer;
 mod kept;
 mod layers;
 mod loose;

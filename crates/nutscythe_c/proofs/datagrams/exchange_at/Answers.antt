@@ -1,6 +1,6 @@
 use Rattle.std.proofs.Common.{arith, refl}
 use Rattle.nutscythe_c.proofs.Objects.{of_first, of_left, of_none, of_one}
-use Rattle.nutscythe_c.proofs.layers.exchange_at.Goals as goal
+use Rattle.nutscythe_c.proofs.datagrams.exchange_at.Goals as goal
 
 pub returns-in_default-origin-clause-decided : goal.returns-in_default-origin-clause-decided
 returns-in_default-origin-clause-decided c =

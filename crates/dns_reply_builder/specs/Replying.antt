@@ -1,0 +1,86 @@
+-- A reply that a service builds (RFC 1035, section 4.1): the query's identifier, opcode, RD and questions, and records by section.
+use Rattle.std.specs.Prelude.{ℕ, ◌≡◌, ◌<◌, ◌==◌, Bool, List, length, Option, Some, None, Result, Ok, Err, if◌then◌else◌}
+use Rattle.dns_name.specs.declared.error.ParseError.{ParseError}
+use Rattle.dns_name.specs.declared.error.ParseError.TheVariants.{ShortInput}
+use Rattle.dns_base.specs.declared.draft.Section.{Section}
+use Rattle.dns_base.specs.declared.draft.Section.TheVariants.{Answer, Authority, Additional}
+use Rattle.dns_base.specs.declared.error.PushError.{PushError}
+use Rattle.dns_base.specs.declared.error.PushError.TheVariants.{ShortBuf, OutOfMemory as NoPushMemory}
+use Rattle.dns_base.specs.Built.{Built, PassesLimit, empty, with_header, with_record}
+use Rattle.dns_base.specs.CopiedRecord.{copied_record}
+use Rattle.dns_base.specs.Msg.{ResourceRecord}
+use Rattle.dns_base.specs.Replies.{error_to}
+use Rattle.dns_base.specs.Standing.{Standing, standing_at}
+use Rattle.dns_reply_builder.specs.declared.reply_builder.AddError.{AddError}
+use Rattle.dns_reply_builder.specs.declared.reply_builder.AddError.TheVariants.{Unreadable, Order, TooLong, OutOfMemory}
+use Rattle.dns_reply_builder.specs.declared.reply_builder.ReplyBuilder.{ReplyBuilder}
+use Rattle.dns_reply_builder.specs.declared.reply_builder.ReplyBuilder.TheVariants as Reply
+
+-- what is built so far
+abbrev pub built_of : ReplyBuilder → Built
+built_of (Reply.Answer b) = b
+built_of (Reply.Authority b) = b
+built_of (Reply.Additional b) = b
+
+-- the place of a section, and of the one that was begun last
+abbrev pub place_of : Section → ℕ
+place_of Answer = 0
+place_of Authority = 1
+place_of Additional = 2
+
+abbrev pub stage_of : ReplyBuilder → ℕ
+stage_of (Reply.Answer b) = 0
+stage_of (Reply.Authority b) = 1
+stage_of (Reply.Additional b) = 2
+
+-- the later of both
+abbrev pub stage_onward : Section → ReplyBuilder → ℕ
+stage_onward Answer b = stage_of b
+stage_onward Authority (Reply.Answer b) = 1
+stage_onward Authority (Reply.Authority b) = 1
+stage_onward Authority (Reply.Additional b) = 2
+stage_onward Additional b = 2
+
+-- the reply that is begun to a query, authoritative or not (RFC 1035, section 4.1.1)
+abbrev pub begun_to : List ℕ → ℕ → Bool → Built
+begun_to o rcode aa =
+    let b = error_to (record { message = empty; limit = 65535 }) o rcode in
+    with_header b (record b.message.header { aa = aa })
+
+-- none exactly to fewer octets than a header has
+abbrev pub Begins : List ℕ → ℕ → Bool → Option ReplyBuilder → Type 0
+Begins o rcode aa None = length o < 12
+Begins o rcode aa (Some b) = (built_of b ≡ begun_to o rcode aa) × (stage_of b ≡ 0)
+
+-- the one record that octets are
+abbrev pub record_by : List ℕ → Result (Standing × ℕ) ParseError → Result ResourceRecord ParseError
+record_by o (Ok p) = if p.1 == length o then copied_record p.0 else Err ShortInput
+record_by o (Err e) = Err e
+
+abbrev pub record_alone : List ℕ → Result ResourceRecord ParseError
+record_alone o = record_by o (standing_at o 0)
+
+-- what a push told
+abbrev pub Told : Result (Unit {0}) PushError → Result (Unit {0}) AddError → Type 0
+Told (Ok u) result = result ≡ Ok tt
+Told (Err ShortBuf) result = result ≡ Err TooLong
+Told (Err NoPushMemory) result = result ≡ Err OutOfMemory
+
+-- a record stands last in its section; Order exactly if a later section was begun, TooLong exactly above the limit
+abbrev pub PushesAt : Section → ResourceRecord → ReplyBuilder → ReplyBuilder → Result (Unit {0}) AddError → Type 0
+PushesAt section r b c (Ok u) = (stage_of b ≡ place_of section) × (stage_of c ≡ stage_of b) × (built_of c ≡ with_record section (built_of b) r)
+PushesAt section r b c (Err Order) = ((stage_of b ≡ place_of section) → ⊥) × (c ≡ b)
+PushesAt section r b c (Err TooLong) = (stage_of c ≡ stage_of b) × (built_of c ≡ built_of b) × PassesLimit (with_record section (built_of b) r)
+PushesAt section r b c (Err OutOfMemory) = (stage_of c ≡ stage_of b) × (built_of c ≡ built_of b)
+PushesAt section r b c (Err Unreadable) = ⊥
+
+-- a record is added, and its section begun; a refused one begins it too
+abbrev pub AddsBuilt : Section → List ℕ → Built → ℕ → Built → Result (Unit {0}) AddError → Type 0
+AddsBuilt section o b stage c (Ok u) = (r : ResourceRecord) × (record_alone o ≡ Ok r) × (stage ≡ place_of section) × (c ≡ with_record section b r)
+AddsBuilt section o b stage c (Err Unreadable) = ((e : ParseError) × (record_alone o ≡ Err e)) × (c ≡ b)
+AddsBuilt section o b stage c (Err Order) = ((stage ≡ place_of section) → ⊥) × (c ≡ b)
+AddsBuilt section o b stage c (Err TooLong) = ((r : ResourceRecord) × (record_alone o ≡ Ok r) × PassesLimit (with_record section b r)) × (c ≡ b)
+AddsBuilt section o b stage c (Err OutOfMemory) = c ≡ b
+
+abbrev pub Adds : Section → List ℕ → ReplyBuilder → ReplyBuilder → Result (Unit {0}) AddError → Type 0
+Adds section o b c result = (stage_of c ≡ stage_onward section b) × AddsBuilt section o (built_of b) (stage_onward section b) (built_of c) result
