@@ -1,0 +1,59 @@
+//! Addresses as sockets have them.
+
+ghost use Rattle.dns_outside.specs.StdAddresses.{AddrIsCanonical, AddrIsMadeOf, IsCanonical, IsMadeOf};
+
+use dns_name::{IpAddr, SocketAddr};
+use std::net;
+
+/// An address without its port as std has it.
+fn ip_to_std(ip: IpAddr) -> net::IpAddr
+    ensures { IsMadeOf result ip }
+{
+    match ip {
+        IpAddr::V4(octets) => net::IpAddr::V4(net::Ipv4Addr::from_octets(octets)),
+        IpAddr::V6(octets) => net::IpAddr::V6(net::Ipv6Addr::from_octets(octets)),
+    }
+}
+
+/// An address as std has it.
+pub(crate) fn to_std(addr: SocketAddr) -> net::SocketAddr
+    ensures { AddrIsMadeOf result addr }
+{
+    net::SocketAddr::new(ip_to_std(addr.ip), addr.port)
+}
+
+/// An address of std without its port. An IPv4 address within IPv6, as a socket of both gives it, is the IPv4 address (RFC
+/// 4291, section 2.5.5.2).
+fn ip_from_std(ip: net::IpAddr) -> IpAddr
+    ensures { IsCanonical ip result }
+{
+    match ip {
+        net::IpAddr::V4(ip) => IpAddr::V4(ip.octets()),
+        net::IpAddr::V6(ip) => match ip.to_ipv4_mapped() {
+            Some(within) => IpAddr::V4(within.octets()),
+            None => IpAddr::V6(ip.octets()),
+        },
+    }
+}
+
+/// An address of std.
+pub(crate) fn from_std(addr: net::SocketAddr) -> SocketAddr
+    ensures { AddrIsCanonical addr result }
+{
+    SocketAddr {
+        ip: ip_from_std(addr.ip()),
+        port: addr.port(),
+    }
+}
+
+/// The unspecified address of the kind of another, with a port.
+pub(crate) fn unspecified(like: net::SocketAddr, port: u16) -> net::SocketAddr {
+    match like.ip() {
+        net::IpAddr::V4(_) => {
+            net::SocketAddr::new(net::IpAddr::V4(net::Ipv4Addr::UNSPECIFIED), port)
+        }
+        net::IpAddr::V6(_) => {
+            net::SocketAddr::new(net::IpAddr::V6(net::Ipv6Addr::UNSPECIFIED), port)
+        }
+    }
+}

@@ -1,0 +1,140 @@
+//! A forwarding proxy: asks upstreams for its clients, behind the layers and a cache; or judges a configuration.
+//!
+//! - `words` has the words of the command line, `load` reads a configuration, `check` judges one.
+//! - `forwarder` has the sockets of clients, the core of dns_proxy and its front, and waits for what comes next. What comes
+//!   of a client is begun there.
+//! - `asking` asks upstreams: each question from a port of its own that nobody can guess (`port`), equal messages from one
+//!   (`place`), and over a connection where an answer was truncated (`connection`).
+//! - `listener` opens the sockets of clients, `address` has addresses as sockets have them.
+//!
+//! ```text
+//! client -> Forwarder::begin -> a reply of the layers or out of the cache
+//!                            -> ask -> a port, opened at random -> upstream
+//! upstream -> take_answers, go_on -> hear -> the core -> sent again, asked over a connection, or the client's reply
+//! ```
+//!
+//! Nothing is sent for a response. A datagram for which there is no room or no memory is lost, as it may be on its way.
+//!
+//! # What is proved
+//!
+//! - Each function is safe, and returns but for those that wait.
+//! - The status of the program: 0 where all was done, 1 with a line that says the fault, 2 for faulty words.
+//! - What a client is sent is up to dns_proxy, dns_fronts, dns_upstreams and dns_outstanding, which have clauses.
+//!
+//! # What a body could still get away with
+//!
+//! No clause says what files and sockets give, nor that what the core gives is handed on. tools/forwardd tests that.
+#![tactic(auto)]
+
+ghost use Rattle.std.specs.Prelude.{◌≡◌, IfOk};
+ghost use Rattle.std.specs.Process.{exit_status};
+
+mod address;
+mod asking;
+mod check;
+mod connection;
+mod forwarder;
+mod listener;
+mod load;
+mod place;
+mod port;
+mod words;
+
+use crate::check::check;
+use crate::forwarder::Forwarder;
+use crate::load::load_config;
+use crate::words::{Order, order_of};
+use mio::Events;
+use std::alloc::Global;
+use std::net::Net;
+use std::process::ExitCode;
+use std::random::RandomSource;
+use std::sync::Wait;
+use std::{env, rt};
+
+/// How many events are taken at a time.
+const EVENTS: usize = 256;
+
+/// Opens the sockets of the configuration of a file.
+fn opened<R: Net + rt::Clock + RandomSource + Copy>(
+    machine: &R,
+    rt: &HostRuntime,
+    path: &str,
+) -> anyhow::Result<Forwarder<R>> {
+    let config = load_config(rt, path)?;
+    Forwarder::open(machine, rt, &config)
+}
+
+/// Takes what comes, until a fault of the machine.
+fn run<R: Net + rt::Clock + RandomSource + Wait + Copy>(
+    machine: &R,
+    alloc: Global,
+    forwarder: &mut Forwarder<R>,
+) -> anyhow::Result<()> {
+    let mut events = Events::with_capacity(alloc, EVENTS)?;
+    for _ in machine.forever() {
+        forwarder.turn(&mut events)?;
+    }
+    Ok(())
+}
+
+/// Serves by the configuration of a file.
+fn serve<R: Net + rt::Clock + RandomSource + Wait + Copy>(
+    machine: &R,
+    rt: &HostRuntime,
+    path: &str,
+) -> anyhow::Result<()> {
+    let mut forwarder = opened(machine, rt, path)?;
+    run(machine, rt.alloc(), &mut forwarder)
+}
+
+/// Says how the program is called.
+fn misused(rt: &impl Eprint) -> ExitCode
+    ensures { exit_status result ≡ 2 }
+{
+    let _ = eprintln!(rt; "usage: forwardd CONFIG, forwardd check CONFIG");
+    ExitCode::from(2)
+}
+
+/// Does what the words ask for.
+fn performed<R: Net + rt::Clock + RandomSource + Wait + Copy>(
+    machine: &R,
+    rt: &HostRuntime,
+    order: Order,
+    path: &str,
+) -> anyhow::Result<ExitCode>
+    ensures { IfOk result (λ status. exit_status status ≡ 0) }
+{
+    match order {
+        Order::Serve => serve(machine, rt, path)?,
+        Order::Check => check(rt, path)?,
+    }
+    Ok(ExitCode::SUCCESS)
+}
+
+/// Reads the words and does what they ask for.
+fn answered<R: Net + rt::Clock + RandomSource + Wait + Copy>(
+    machine: &R,
+    rt: &HostRuntime,
+) -> anyhow::Result<ExitCode> {
+    let words: Vec<String> = env::args(rt)?.collect(rt.alloc())?;
+    match (order_of(words.as_slice()), words.last()) {
+        (Some(order), Some(path)) => performed(machine, rt, order, path.as_str()),
+        _ => Ok(misused(rt)),
+    }
+}
+
+/// Says a fault in a line.
+fn failed(rt: &impl Eprint, fault: &anyhow::Error) -> ExitCode
+    ensures { exit_status result ≡ 1 }
+{
+    let _ = eprintln!(rt; "forwardd: {fault:#}");
+    ExitCode::FAILURE
+}
+
+fn main(rt: HostRuntime) -> ExitCode {
+    match answered(&rt, &rt) {
+        Ok(status) => status,
+        Err(fault) => failed(&rt, &fault),
+    }
+}
