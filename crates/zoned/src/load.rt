@@ -1,0 +1,169 @@
+//! Configurations and zones that are read of files.
+
+use crate::generation::serial_of;
+use crate::secondary::Secondary;
+use anyhow::{Context, bail};
+use dns_config::{Config, ZoneEntry, read_config};
+use dns_generation::{Generation, ZoneSummary, networks};
+use dns_name::SocketAddr;
+use log::warn;
+use std::alloc::{AllocError, Global};
+use std::fmt::Write;
+use std::{fmt, fs};
+
+/// An address and a port as text, the address of IPv6 in brackets.
+#[derive(Clone, Copy)]
+pub(crate) struct Shown(pub(crate) SocketAddr);
+
+impl fmt::Display for Shown {
+    fn fmt<W: fmt::Write>(&self, f: &mut fmt::Formatter<W>) -> fmt::Result {
+        let ip = self.0.ip;
+        let port = self.0.port;
+        match ip {
+            dns_name::IpAddr::V4(_) => write!(f, "{ip}:{port}"),
+            dns_name::IpAddr::V6(_) => write!(f, "[{ip}]:{port}"),
+        }
+    }
+}
+
+/// The lines of a text in one.
+fn in_one_line(alloc: Global, text: &str) -> Result<String, AllocError> {
+    let mut line = String::new(alloc);
+    for part in text.lines() {
+        if !line.is_empty() {
+            line.push_str(": ")?;
+        }
+        line.push_str(part)?;
+    }
+    Ok(line)
+}
+
+/// The configuration that a text is.
+fn configuration(alloc: Global, text: &str) -> anyhow::Result<Config> {
+    match read_config(alloc, text) {
+        Ok(config) => Ok(config),
+        Err(error) => {
+            let said = format!(in alloc; "{error}")?;
+            bail!("{}", in_one_line(alloc, said.as_str())?)
+        }
+    }
+}
+
+/// The configuration that a file has.
+pub(crate) fn load_config(rt: &HostRuntime, path: &str) -> anyhow::Result<Config> {
+    let text = fs::read_to_string(rt, path).context(format_args!("{path}"))?;
+    configuration(rt.alloc(), text.as_str()).context(format_args!("{path}"))
+}
+
+/// Reads and judges the zone of one file, and puts it behind the others.
+fn load_zone(
+    rt: &HostRuntime,
+    generation: &mut Generation,
+    entry: &ZoneEntry,
+) -> anyhow::Result<()> {
+    let file = entry.file.as_str();
+    let text = fs::read(rt, file).context(format_args!("{file}"))?;
+    generation
+        .add(rt.alloc(), &entry.name.name, text.as_slice())
+        .context(format_args!("{file}"))
+}
+
+/// Whether a zone stands among these.
+fn is_among(zones: &[ZoneEntry], entry: &ZoneEntry) -> bool {
+    for other in zones {
+        if other.name.name.name_eq(&entry.name.name.for_ref()) {
+            return true;
+        }
+    }
+    false
+}
+
+/// Whether the secondary of a zone has no copy of it.
+fn is_without_copy(secondaries: &[Secondary], entry: &ZoneEntry) -> bool {
+    for secondary in secondaries {
+        if secondary.is_of(entry) {
+            return !secondary.has_copy();
+        }
+    }
+    false
+}
+
+/// Puts a zone that has a primary behind the others: its copy, where there is one that is a zone, and else without data.
+fn load_copy(
+    rt: &HostRuntime,
+    generation: &mut Generation,
+    secondaries: &[Secondary],
+    entry: &ZoneEntry,
+) -> anyhow::Result<()> {
+    if !is_without_copy(secondaries, entry) {
+        match load_zone(rt, generation, entry) {
+            Ok(()) => return Ok(()),
+            Err(fault) => warn!(rt; "{}: no copy is served: {fault:#}", entry.name.name),
+        }
+    }
+    generation.withhold(rt.alloc(), &entry.name.name)?;
+    Ok(())
+}
+
+/// All zones of a configuration, each read and judged.
+pub(crate) fn load_generation(
+    rt: &HostRuntime,
+    config: &Config,
+    secondaries: &[Secondary],
+) -> anyhow::Result<Generation> {
+    let allowed = networks(rt.alloc(), config.allow_transfer.as_slice())?;
+    let mut generation = Generation::new(rt.alloc(), allowed);
+    for (index, entry) in config.zone.iter().enumerate() {
+        if is_among(&config.zone[..index], entry) {
+            bail!("zone {} stands twice", entry.name.name);
+        }
+        match entry.primary {
+            Some(_) => load_copy(rt, &mut generation, secondaries, entry)?,
+            None => load_zone(rt, &mut generation, entry)?,
+        }
+    }
+    Ok(generation)
+}
+
+/// Appends the line of a zone.
+fn push_zone(
+    text: &mut String,
+    entry: &ZoneEntry,
+    summary: &ZoneSummary,
+) -> Result<(), AllocError> {
+    let name = &entry.name.name;
+    let file = entry.file.as_str();
+    let records = summary.records;
+    match serial_of(summary) {
+        Some(serial) => writeln!(
+            text,
+            "zone {name} serial {serial}, {records} records, of {file}"
+        ),
+        None => writeln!(text, "zone {name} without data, of {file}"),
+    }
+}
+
+/// A line for each zone: its name, its serial, how many records it has, and its file.
+pub(crate) fn report(
+    alloc: Global,
+    config: &Config,
+    summaries: &[ZoneSummary],
+) -> Result<String, AllocError> {
+    let mut text = String::new(alloc);
+    for (entry, summary) in config.zone.iter().zip(summaries.iter()) {
+        push_zone(&mut text, entry, summary)?;
+    }
+    Ok(text)
+}
+
+/// Says what a configuration would serve and where, or the first fault.
+pub(crate) fn check(rt: &HostRuntime, path: &str) -> anyhow::Result<()> {
+    let config = load_config(rt, path)?;
+    let generation = load_generation(rt, &config, &[])?;
+    for endpoint in config.listen.iter() {
+        println!(rt; "listen {}", Shown(endpoint.address))?;
+    }
+    let zones = report(rt.alloc(), &config, generation.summaries())?;
+    print!(rt; "{zones}")?;
+    Ok(())
+}
