@@ -2,6 +2,7 @@
 
 use anyhow::Context;
 use std::alloc::Global;
+use std::fs;
 use std::io::{self, Read, Write};
 use std::net::Net;
 use std::os::unix::net::{UnixListener, UnixStream};
@@ -18,7 +19,7 @@ pub(crate) enum Order {
 }
 
 /// The order that a line is.
-pub(crate) fn order_of(line: &[u8]) -> Option<Order> {
+fn order_of(line: &[u8]) -> Option<Order> {
     match line {
         b"status\n" => Some(Order::Status),
         b"reload\n" => Some(Order::Reload),
@@ -34,18 +35,24 @@ const LINE_LIMIT: usize = 16;
 /// How long a caller may take for a line, and for what is said to it.
 const CALLER_SECONDS: u64 = 1;
 
-/// A Unix socket at which a server is asked.
+/// A Unix socket at which a server is asked, and its path.
 #[derive(Drop)]
 pub(crate) struct Control {
+    path: String,
     listener: UnixListener,
 }
 
 impl Control {
     /// A socket at this path, where there is no file yet.
-    pub(crate) fn bind<R: Files + Net>(rt: &R, path: &str) -> anyhow::Result<Control> {
+    pub(crate) fn bind<R: Files + Net>(
+        rt: &R,
+        alloc: Global,
+        path: &str,
+    ) -> anyhow::Result<Control> {
         let listener = UnixListener::bind(rt, path).context(format_args!("control {path}"))?;
         listener.set_nonblocking(true)?;
-        Ok(Control { listener })
+        let path = String::from_str(alloc, path)?;
+        Ok(Control { path, listener })
     }
 
     /// The next caller, if one is there.
@@ -55,6 +62,27 @@ impl Control {
             Err(_) => None,
         }
     }
+
+    /// Closes the socket and removes it.
+    pub(crate) fn remove<R: Files>(self, rt: &R) {
+        let _ = fs::remove_file(rt, self.path.as_str());
+    }
+}
+
+/// Reads a line, up to its end or as far as an order may be.
+fn read_line<S: Read>(alloc: Global, stream: &mut S) -> io::Result<Vec<u8>> {
+    let mut line: Vec<u8> = Vec::new(alloc);
+    let mut octet = [0u8];
+    for _ in 0..LINE_LIMIT {
+        if stream.read(&mut octet)? == 0 {
+            break;
+        }
+        line.push(octet[0])?;
+        if octet[0] == b'\n' {
+            break;
+        }
+    }
+    Ok(line)
 }
 
 /// Who asks a server.
@@ -70,17 +98,7 @@ impl Caller {
         self.stream.set_nonblocking(false)?;
         self.stream.set_read_timeout(limit)?;
         self.stream.set_write_timeout(limit)?;
-        let mut line: Vec<u8> = Vec::new(alloc);
-        let mut octet = [0u8];
-        for _ in 0..LINE_LIMIT {
-            if self.stream.read(&mut octet)? == 0 {
-                break;
-            }
-            line.push(octet[0])?;
-            if octet[0] == b'\n' {
-                break;
-            }
-        }
+        let line = read_line(alloc, &mut self.stream)?;
         Ok(order_of(line.as_slice()))
     }
 

@@ -3,6 +3,7 @@
 use crate::secondary::{Checking, Secondary};
 use dns_config::{Config, ZoneEntry};
 use dns_generation::ZoneSummary;
+use dns_name::OutOfMemory;
 use dns_secondary_service::NotifyTarget;
 use std::alloc::{AllocError, Global};
 use std::mem;
@@ -18,25 +19,23 @@ pub(crate) struct Copies {
     target: Arc<NotifyTarget>,
     /// Checks of zones that are no longer configured.
     leaving: Vec<Checking>,
+    /// Set where checks are to be given up.
     stop: Arc<AtomicBool>,
 }
 
-/// The secondary of an entry, which is taken out of these.
-fn taken_out(
-    alloc: Global,
-    secondaries: &mut Vec<Secondary>,
-    entry: &ZoneEntry,
-) -> anyhow::Result<Option<Secondary>> {
-    let all = mem::replace(secondaries, Vec::new(alloc));
-    let mut found = None;
-    for secondary in all {
-        if secondary.is_of(entry) {
-            found = Some(secondary);
-        } else {
-            secondaries.push(secondary)?;
-        }
+/// Where the secondary of an entry stands among these.
+fn place_of(secondaries: &[Secondary], entry: &ZoneEntry) -> Option<usize> {
+    secondaries
+        .iter()
+        .position(|secondary| secondary.is_of(entry))
+}
+
+/// Takes the secondary of an entry out of these.
+fn taken_out(secondaries: &mut Vec<Secondary>, entry: &ZoneEntry) -> Option<Secondary> {
+    match place_of(secondaries.as_slice(), entry) {
+        Some(place) if place < secondaries.len() => Some(secondaries.swap_remove(place)),
+        _ => None,
     }
-    Ok(found)
 }
 
 /// The secondary of an entry, if that has a primary: one of these, where it was there before.
@@ -46,14 +45,13 @@ fn followed(
     entry: &ZoneEntry,
     summary: &ZoneSummary,
     now: u64,
-) -> anyhow::Result<Option<Secondary>> {
+) -> Result<Option<Secondary>, OutOfMemory> {
     let primary = match entry.primary {
         Some(endpoint) => endpoint.address,
         None => return Ok(None),
     };
-    match taken_out(alloc, before, entry)? {
-        Some(secondary) => {
-            let mut secondary = secondary;
+    match taken_out(before, entry) {
+        Some(mut secondary) => {
             secondary.follow(summary, now);
             Ok(Some(secondary))
         }
@@ -61,8 +59,25 @@ fn followed(
     }
 }
 
+/// The secondaries of a configuration with these summaries, those of before taken out of these.
+fn follow_all(
+    alloc: Global,
+    before: &mut Vec<Secondary>,
+    config: &Config,
+    summaries: &[ZoneSummary],
+    now: u64,
+) -> Result<Vec<Secondary>, OutOfMemory> {
+    let mut secondaries = Vec::new(alloc);
+    for (entry, summary) in config.zone.iter().zip(summaries.iter()) {
+        if let Some(secondary) = followed(alloc, before, entry, summary, now)? {
+            secondaries.push(secondary)?;
+        }
+    }
+    Ok(secondaries)
+}
+
 /// The target of NOTIFY for some zones.
-fn target_of(alloc: Global, secondaries: &[Secondary]) -> anyhow::Result<Arc<NotifyTarget>> {
+fn target_of(alloc: Global, secondaries: &[Secondary]) -> Result<Arc<NotifyTarget>, OutOfMemory> {
     let mut zones = Vec::new(alloc);
     for secondary in secondaries {
         zones.push(secondary.watched(alloc)?)?;
@@ -71,16 +86,37 @@ fn target_of(alloc: Global, secondaries: &[Secondary]) -> anyhow::Result<Arc<Not
     Ok(Arc::new(alloc, target)?)
 }
 
+/// Looks at each copy, those that were woken first of all. Whether another one, or none, is served from now on.
+fn look_at_all<R: Net + Threads + Copy + Send + 'static>(
+    machine: &R,
+    rt: &HostRuntime,
+    secondaries: &mut [Secondary],
+    target: &NotifyTarget,
+    stop: &Arc<AtomicBool>,
+    now: u64,
+) -> bool {
+    let mut changed = false;
+    for (index, secondary) in secondaries.iter_mut().enumerate() {
+        if target.take_woken(index) {
+            secondary.wake(rt);
+        }
+        if secondary.look(machine, rt, stop, now) {
+            changed = true;
+        }
+    }
+    changed
+}
+
 impl Copies {
     /// No copy yet.
-    pub(crate) fn new(alloc: Global) -> anyhow::Result<Copies> {
-        let secondaries = Vec::new(alloc);
+    pub(crate) fn new(alloc: Global) -> Result<Copies, OutOfMemory> {
         let target = target_of(alloc, &[])?;
+        let stop = Arc::new(alloc, AtomicBool::new(false))?;
         Ok(Copies {
-            secondaries,
+            secondaries: Vec::new(alloc),
             target,
             leaving: Vec::new(alloc),
-            stop: Arc::new(alloc, AtomicBool::new(false))?,
+            stop,
         })
     }
 
@@ -94,32 +130,37 @@ impl Copies {
         &self.target
     }
 
-    /// Goes on to the zones of a configuration with these summaries. A zone that was there before with its primary keeps what is known
-    /// of its copy.
+    /// Keeps the checks of zones that are no longer configured, until they end.
+    fn leave(&mut self, before: Vec<Secondary>) -> Result<(), OutOfMemory> {
+        for secondary in before {
+            if let Some(checking) = secondary.into_checking() {
+                self.leaving.push(checking)?;
+            }
+        }
+        Ok(())
+    }
+
+    /// Goes on to the zones of a configuration with these summaries. A zone that was there before with its primary keeps what is
+    /// known of its copy.
     pub(crate) fn follow(
         &mut self,
         alloc: Global,
         config: &Config,
         summaries: &[ZoneSummary],
         now: u64,
-    ) -> anyhow::Result<()> {
+    ) -> Result<(), OutOfMemory> {
         let mut before = mem::replace(&mut self.secondaries, Vec::new(alloc));
-        for (entry, summary) in config.zone.iter().zip(summaries.iter()) {
-            if let Some(secondary) = followed(alloc, &mut before, entry, summary, now)? {
-                self.secondaries.push(secondary)?;
-            }
-        }
-        for secondary in before {
-            if let Some(checking) = secondary.into_checking() {
-                self.leaving.push(checking)?;
-            }
-        }
+        self.secondaries = follow_all(alloc, &mut before, config, summaries, now)?;
         self.target = target_of(alloc, self.secondaries.as_slice())?;
-        Ok(())
+        self.leave(before)
     }
 
     /// Ends the checks of zones that are no longer configured, where they are done.
-    fn look_at_leaving<R: Threads>(&mut self, machine: &R, alloc: Global) -> anyhow::Result<()> {
+    fn look_at_leaving<R: Threads>(
+        &mut self,
+        machine: &R,
+        alloc: Global,
+    ) -> Result<(), OutOfMemory> {
         let leaving = mem::replace(&mut self.leaving, Vec::new(alloc));
         for checking in leaving {
             if checking.has_ended() {
@@ -137,18 +178,10 @@ impl Copies {
         machine: &R,
         rt: &HostRuntime,
         now: u64,
-    ) -> anyhow::Result<bool> {
+    ) -> Result<bool, OutOfMemory> {
         self.look_at_leaving(machine, rt.alloc())?;
-        let mut changed = false;
-        for (index, secondary) in self.secondaries.iter_mut().enumerate() {
-            if self.target.take_woken(index) {
-                secondary.wake(rt);
-            }
-            if secondary.look(machine, rt, &self.stop, now)? {
-                changed = true;
-            }
-        }
-        Ok(changed)
+        let secondaries = self.secondaries.as_mut_slice();
+        Ok(look_at_all(machine, rt, secondaries, &self.target, &self.stop, now))
     }
 
     /// What is said of each copy.
@@ -162,14 +195,25 @@ impl Copies {
 
     /// Ends all checks.
     pub(crate) fn end<R: Threads>(self, machine: &R) {
-        self.stop.store(true, Ordering::SeqCst);
-        for checking in self.leaving {
-            let _ = checking.join(machine);
-        }
-        for secondary in self.secondaries {
+        let Copies {
+            secondaries,
+            leaving,
+            stop,
+            ..
+        } = self;
+        stop.store(true, Ordering::SeqCst);
+        join_all(machine, leaving);
+        for secondary in secondaries {
             if let Some(checking) = secondary.into_checking() {
                 let _ = checking.join(machine);
             }
         }
+    }
+}
+
+/// Waits for the end of some checks.
+fn join_all<R: Threads>(machine: &R, checks: Vec<Checking>) {
+    for checking in checks {
+        let _ = checking.join(machine);
     }
 }

@@ -15,26 +15,33 @@ pub(crate) struct Listener {
     pub(crate) sock: QuerySock<MioSock>,
 }
 
+/// The socket of datagrams at an address.
+fn bind_sock<N: Net>(net: &N, address: SocketAddr) -> anyhow::Result<QuerySock<MioSock>> {
+    let shown = Shown(address);
+    let sock = MioSock::bind(net, address).context(format_args!("listening on {shown} over UDP"))?;
+    Ok(QuerySock::new(sock))
+}
+
+/// The socket of connections at an address, and the address with the port that the system picked.
+fn bind_accept<N: Net>(net: &N, wanted: SocketAddr) -> anyhow::Result<(MioAccept, SocketAddr)> {
+    let shown = Shown(wanted);
+    let accept = MioAccept::bind(net, wanted).context(format_args!(
+        "listening on {shown} over TCP"
+    ))?;
+    let port = accept.local_addr()?.port;
+    let ip = wanted.ip;
+    Ok((accept, SocketAddr { ip, port }))
+}
+
 impl Listener {
     /// Opens the sockets of an address, the one of connections first; at port 0 the system picks the port of both.
     pub(crate) fn bind<N: Net>(net: &N, wanted: SocketAddr) -> anyhow::Result<Listener> {
-        let accept = MioAccept::bind(net, wanted).context(format_args!(
-            "listening on {} over TCP",
-            Shown(wanted)
-        ))?;
-        let port = accept.local_addr()?.port;
-        let address = SocketAddr {
-            ip: wanted.ip,
-            port,
-        };
-        let sock = MioSock::bind(net, address).context(format_args!(
-            "listening on {} over UDP",
-            Shown(address)
-        ))?;
+        let (accept, address) = bind_accept(net, wanted)?;
+        let sock = bind_sock(net, address)?;
         Ok(Listener {
             address,
             accept,
-            sock: QuerySock::new(sock),
+            sock,
         })
     }
 }

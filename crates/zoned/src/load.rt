@@ -1,11 +1,10 @@
 //! Configurations and zones that are read of files.
 
-use crate::generation::serial_of;
 use crate::secondary::Secondary;
 use anyhow::{Context, bail};
 use dns_config::{Config, ZoneEntry, read_config};
 use dns_generation::{Generation, ZoneSummary, networks};
-use dns_name::SocketAddr;
+use dns_name::{IpAddr, SocketAddr};
 use log::warn;
 use std::alloc::{AllocError, Global};
 use std::fmt::Write;
@@ -20,9 +19,17 @@ impl fmt::Display for Shown {
         let ip = self.0.ip;
         let port = self.0.port;
         match ip {
-            dns_name::IpAddr::V4(_) => write!(f, "{ip}:{port}"),
-            dns_name::IpAddr::V6(_) => write!(f, "[{ip}]:{port}"),
+            IpAddr::V4(_) => write!(f, "{ip}:{port}"),
+            IpAddr::V6(_) => write!(f, "[{ip}]:{port}"),
         }
+    }
+}
+
+/// The serial of a zone.
+pub(crate) fn serial_of(summary: &ZoneSummary) -> Option<u32> {
+    match summary.timers {
+        Some(timers) => Some(timers.serial.into_int()),
+        None => None,
     }
 }
 
@@ -68,9 +75,9 @@ fn load_zone(
         .context(format_args!("{file}"))
 }
 
-/// Whether a zone stands among these.
-fn is_among(zones: &[ZoneEntry], entry: &ZoneEntry) -> bool {
-    for other in zones {
+/// Whether a zone stands among the first so many of a configuration.
+fn stands_before(config: &Config, count: usize, entry: &ZoneEntry) -> bool {
+    for other in config.zone.iter().take(count) {
         if other.name.name.name_eq(&entry.name.name.for_ref()) {
             return true;
         }
@@ -105,6 +112,19 @@ fn load_copy(
     Ok(())
 }
 
+/// Puts a zone behind the others, whether it has a primary or not.
+fn load_entry(
+    rt: &HostRuntime,
+    generation: &mut Generation,
+    secondaries: &[Secondary],
+    entry: &ZoneEntry,
+) -> anyhow::Result<()> {
+    match entry.primary {
+        Some(_) => load_copy(rt, generation, secondaries, entry),
+        None => load_zone(rt, generation, entry),
+    }
+}
+
 /// All zones of a configuration, each read and judged.
 pub(crate) fn load_generation(
     rt: &HostRuntime,
@@ -114,13 +134,10 @@ pub(crate) fn load_generation(
     let allowed = networks(rt.alloc(), config.allow_transfer.as_slice())?;
     let mut generation = Generation::new(rt.alloc(), allowed);
     for (index, entry) in config.zone.iter().enumerate() {
-        if is_among(&config.zone[..index], entry) {
+        if stands_before(config, index, entry) {
             bail!("zone {} stands twice", entry.name.name);
         }
-        match entry.primary {
-            Some(_) => load_copy(rt, &mut generation, secondaries, entry)?,
-            None => load_zone(rt, &mut generation, entry)?,
-        }
+        load_entry(rt, &mut generation, secondaries, entry)?;
     }
     Ok(generation)
 }

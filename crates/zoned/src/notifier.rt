@@ -1,8 +1,8 @@
 //! NOTIFY to those who are to know of a new serial (RFC 1996).
 
 use crate::check::to_std;
-use crate::generation::{Served, serial_of};
-use crate::load::Shown;
+use crate::load::{Shown, serial_of};
+use crate::served::Served;
 use anyhow::bail;
 use dns_config::ZoneEntry;
 use dns_forward::{Asking, Ticked};
@@ -56,6 +56,17 @@ fn identifier<R: RandomSource>(random: &R) -> anyhow::Result<u16> {
     Ok(u16::from_be_bytes(octets))
 }
 
+/// What is asked of those who are to know: whether the NOTIFY of a zone came.
+fn asking_of(alloc: Global, apex: &Name, id: u16, now: u64) -> anyhow::Result<Asking> {
+    match zone_notify(alloc, id, apex) {
+        Ok(message) => {
+            let message = message.into_message();
+            Ok(Asking::new(alloc, message, id, TRIES, WAIT_MILLIS, now)?)
+        }
+        Err(_) => bail!("out of memory"),
+    }
+}
+
 /// What came of a look at a NOTIFY.
 #[derive(Clone, Copy, PartialEq, Eq)]
 enum Told {
@@ -77,14 +88,11 @@ impl Telling {
         now: u64,
     ) -> anyhow::Result<Telling> {
         let id = identifier(machine)?;
-        let message = match zone_notify(alloc, id, apex) {
-            Ok(message) => message.into_message(),
-            Err(_) => bail!("out of memory"),
-        };
+        let asking = asking_of(alloc, apex, id, now)?;
+        let apex = apex.try_clone(alloc)?;
         let socket = socket_for(machine, to)?;
-        let asking = Asking::new(alloc, message, id, TRIES, WAIT_MILLIS, now)?;
         let telling = Telling {
-            apex: apex.try_clone(alloc)?,
+            apex,
             to,
             socket,
             asking,
@@ -201,7 +209,7 @@ impl Notifier {
     ) -> anyhow::Result<()> {
         let alloc = rt.alloc();
         let mut known = Vec::new(alloc);
-        for (entry, summary) in served.config.zone.iter().zip(served.summaries.iter()) {
+        for (entry, summary) in served.config.zone.iter().zip(served.zones.summaries.iter()) {
             let apex = &entry.name.name;
             if let Some(serial) = serial_of(summary) {
                 if !self.is_known(apex, serial) {

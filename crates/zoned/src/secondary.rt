@@ -219,12 +219,11 @@ impl Secondary {
     fn begin<R: Net + Threads + Copy + Send + 'static>(
         &mut self,
         machine: &R,
-        rt: &HostRuntime,
+        alloc: Global,
         stop: &Arc<AtomicBool>,
         now: u64,
     ) -> anyhow::Result<()> {
         self.copy.begin(now);
-        let alloc = rt.alloc();
         let check = Check {
             apex: self.apex.try_clone(alloc)?,
             primary: self.primary,
@@ -244,6 +243,22 @@ impl Secondary {
         obsolete
     }
 
+    /// Begins a check that is due, unless one is going on. That it can't be begun is logged.
+    fn begin_due<R: Net + Threads + Copy + Send + 'static>(
+        &mut self,
+        machine: &R,
+        rt: &HostRuntime,
+        stop: &Arc<AtomicBool>,
+        now: u64,
+    ) {
+        if self.checking.is_some() || !self.copy.is_due(now) {
+            return;
+        }
+        if let Err(fault) = self.begin(machine, rt.alloc(), stop, now) {
+            error!(rt; "{}: {fault:#}", self.apex);
+        }
+    }
+
     /// Takes what came of a check, discards an obsolete copy, and begins a check that is due. Whether another copy, or none, is
     /// served from now on.
     pub(crate) fn look<R: Net + Threads + Copy + Send + 'static>(
@@ -252,12 +267,10 @@ impl Secondary {
         rt: &HostRuntime,
         stop: &Arc<AtomicBool>,
         now: u64,
-    ) -> anyhow::Result<bool> {
+    ) -> bool {
         let came = self.take_ended(machine, rt, now);
         let went = self.discard(rt, now);
-        if self.checking.is_none() && self.copy.is_due(now) {
-            self.begin(machine, rt, stop, now)?;
-        }
-        Ok(came || went)
+        self.begin_due(machine, rt, stop, now);
+        came || went
     }
 }

@@ -2,13 +2,16 @@
 
 use crate::control::{Caller, Control, Order};
 use crate::copies::Copies;
-use crate::generation::Served;
+use crate::counts::counted;
+use crate::layers::layered;
 use crate::listener::Listener;
-use crate::load::{Shown, load_config};
+use crate::load::{Shown, report};
 use crate::notifier::Notifier;
-use crate::post::{Closer, Post};
+use crate::running::Running;
+use crate::served::Served;
 use dns_config::Config;
 use dns_host::HostEnd;
+use dns_reply_counts::ReplyCounts;
 use log::{error, info};
 use std::alloc::Global;
 use std::net::Net;
@@ -17,7 +20,7 @@ use std::rt::{Clock, Files};
 use std::sync::{Arc, Wait};
 use std::thread::Threads;
 use std::time::{Duration, Instant};
-use std::{fs, mem, thread};
+use std::{mem, thread};
 
 /// How often it is looked whether something is asked.
 const LOOK_MILLIS: u64 = 50;
@@ -28,36 +31,75 @@ const MILLIS: u64 = 1_000;
 /// How long nothing is served after a listener ended by itself.
 const PAUSE_MILLIS: u64 = 1_000;
 
+/// How far the generation that is served is.
+#[derive(Clone, Copy, PartialEq, Eq)]
+enum Phase {
+    /// It is served.
+    Serving,
+    /// Another one is to be served.
+    Renewed,
+    /// Nothing more is to be served.
+    Stopped,
+}
+
 /// A server: where it listens, what it serves and who controls it.
 #[derive(Drop)]
-pub(crate) struct Server {
+struct Server {
     path: String,
-    socket: Option<String>,
-    control: Option<Control>,
     since: Instant,
     served: Served,
     copies: Copies,
     notifier: Notifier,
+    counts: Arc<ReplyCounts>,
+    control: Option<Control>,
     listeners: Vec<Listener>,
-    closers: Vec<Closer>,
-    stopped: bool,
+    phase: Phase,
 }
 
-/// What follows a generation.
-#[derive(Drop)]
-enum Next {
-    /// A new generation, which was judged.
-    Generation(Served),
-    Stop,
+/// Whether a listener was shut down or has ended by itself.
+fn has_ended<R: Wait>(machine: &R, running: &mut [Running]) -> bool {
+    for one in running {
+        if one.is_closed(machine) {
+            return true;
+        }
+    }
+    false
 }
 
-/// Opens the sockets of each address, and says where is listened.
-fn bind_all<N: Net>(net: &N, rt: &HostRuntime, config: &Config) -> anyhow::Result<Vec<Listener>> {
-    let mut listeners = Vec::new(rt.alloc());
+/// Shuts each listener down.
+fn close_all<R: Wait>(machine: &R, running: &mut [Running]) {
+    for one in running {
+        one.close(machine);
+    }
+}
+
+/// Says why a reload is refused.
+fn refuse(rt: &HostRuntime, caller: &mut Caller, fault: &anyhow::Error) -> anyhow::Result<()> {
+    error!(rt; "reload refused: {fault:#}");
+    let text = format!(in rt.alloc(); "refused: {fault:#}\n")?;
+    caller.say(text.as_str())?;
+    Ok(())
+}
+
+/// Opens the sockets of each address.
+fn bind_all<R: Net>(machine: &R, alloc: Global, config: &Config) -> anyhow::Result<Vec<Listener>> {
+    let mut listeners = Vec::new(alloc);
     for endpoint in config.listen.iter() {
-        listeners.push(Listener::bind(net, endpoint.address)?)?;
+        listeners.push(Listener::bind(machine, endpoint.address)?)?;
     }
     Ok(listeners)
+}
+
+/// Opens the control socket, where one is named.
+fn open_control<R: Net + Files>(
+    machine: &R,
+    alloc: Global,
+    config: &Config,
+) -> anyhow::Result<Option<Control>> {
+    match &config.control {
+        Some(path) => Ok(Some(Control::bind(machine, alloc, path.as_str())?)),
+        None => Ok(None),
+    }
 }
 
 /// Says where is listened.
@@ -68,300 +110,280 @@ fn say_listeners(rt: &HostRuntime, listeners: &[Listener]) -> anyhow::Result<()>
     Ok(())
 }
 
-/// Opens the control socket, where one is named.
-fn open_control<R: Net + Files>(
-    machine: &R,
-    socket: &Option<String>,
-) -> anyhow::Result<Option<Control>> {
-    match socket {
-        Some(path) => Ok(Some(Control::bind(machine, path.as_str())?)),
-        None => Ok(None),
-    }
-}
-
-/// How many seconds have passed since a moment.
-fn seconds_since(rt: &HostRuntime, since: Instant) -> anyhow::Result<u64> {
-    Ok(since.elapsed(rt)?.as_secs())
-}
-
-/// Copies of the zones of a generation.
-fn first_copies(alloc: Global, served: &Served) -> anyhow::Result<Copies> {
-    let mut copies = Copies::new(alloc)?;
-    copies.follow(alloc, &served.config, served.summaries.as_slice(), 0)?;
-    Ok(copies)
-}
-
 impl Server {
-    /// Reads and judges a configuration and its zones, and opens the sockets.
-    pub(crate) fn open<R: Net + Files>(
-        machine: &R,
-        rt: &HostRuntime,
-        path: &str,
-    ) -> anyhow::Result<Server> {
+    /// Reads and judges a configuration and its zones. Nothing is open yet.
+    fn new(rt: &HostRuntime, path: &str) -> anyhow::Result<Server> {
         let alloc = rt.alloc();
-        let config = Arc::new(alloc, load_config(rt, path)?)?;
-        let served = Served::of(rt, 1, config, &[])?;
-        let config = &served.config;
-        let listeners = bind_all(machine, rt, config)?;
-        let control = open_control(machine, &config.control)?;
-        let socket = match &config.control {
-            Some(socket) => Some(String::from_str(alloc, socket.as_str())?),
-            None => None,
-        };
-        let copies = first_copies(alloc, &served)?;
-        say_listeners(rt, listeners.as_slice())?;
+        let since = Instant::now(rt)?;
+        let counts = Arc::new(alloc, ReplyCounts::new(alloc)?)?;
+        let copies = Copies::new(alloc)?;
+        let served = Served::load(rt, 1, path, &[])?;
+        let path = String::from_str(alloc, path)?;
         Ok(Server {
-            path: String::from_str(alloc, path)?,
-            socket,
-            control,
-            since: Instant::now(rt)?,
+            path,
+            since,
             served,
             copies,
             notifier: Notifier::new(alloc),
-            listeners,
-            closers: Vec::new(rt.alloc()),
-            stopped: false,
+            counts,
+            control: None,
+            listeners: Vec::new(alloc),
+            phase: Phase::Serving,
         })
     }
 
-    /// The listeners, each to serve the generation in a thread of its own.
-    pub(crate) fn posts<R: Wait + Net + RandomSource>(
-        &mut self,
-        machine: &R,
-        rt: &HostRuntime,
-    ) -> anyhow::Result<Vec<Post>> {
+    /// Opens all sockets, and says where is listened.
+    fn open<R: Net + Files>(&mut self, machine: &R, rt: &HostRuntime) -> anyhow::Result<()> {
         let alloc = rt.alloc();
-        info!(rt; "generation {} is served", self.served.number);
-        let now = self.seconds(rt)?.saturating_mul(MILLIS);
-        self.notifier.tell_changes(machine, rt, &self.served, now)?;
-        let listeners = mem::replace(&mut self.listeners, Vec::new(alloc));
-        let mut posts = Vec::new(alloc);
-        let mut closers = Vec::new(alloc);
-        for listener in listeners {
-            let served = &self.served;
-            let (post, closer) = Post::new(
-                machine,
-                alloc,
-                listener,
-                &served.settings,
-                &served.service,
-                self.copies.target(),
-            )?;
-            posts.push(post)?;
-            closers.push(closer)?;
-        }
-        self.closers = closers;
-        Ok(posts)
-    }
-
-    /// Takes a listener back that has ended.
-    pub(crate) fn take_back(
-        &mut self,
-        rt: &HostRuntime,
-        listener: Listener,
-        end: HostEnd,
-    ) -> anyhow::Result<()> {
-        if end != HostEnd::Done {
-            error!(rt; "{}: an accept, a thread, a receive or a send failed", Shown(listener.address));
-        }
-        self.listeners.push(listener)?;
-        Ok(())
-    }
-
-    /// Whether it was stopped.
-    pub(crate) fn is_stopped(&self) -> bool {
-        self.stopped
-    }
-
-    /// Ends the checks of copies, and removes the control socket.
-    pub(crate) fn end<R: Files + Threads>(self, machine: &R) {
-        let Server { copies, socket, .. } = self;
-        copies.end(machine);
-        if let Some(socket) = socket {
-            let _ = fs::remove_file(machine, socket.as_str());
-        }
+        self.listeners = bind_all(machine, alloc, &self.served.config)?;
+        self.control = open_control(machine, alloc, &self.served.config)?;
+        self.follow_copies(rt)?;
+        say_listeners(rt, self.listeners.as_slice())
     }
 
     /// How many seconds the server runs.
     fn seconds(&self, rt: &HostRuntime) -> anyhow::Result<u64> {
-        seconds_since(rt, self.since)
+        Ok(self.since.elapsed(rt)?.as_secs())
     }
 
-    /// Says what is served.
+    /// Goes on to the copies of the zones that are served.
+    fn follow_copies(&mut self, rt: &HostRuntime) -> anyhow::Result<()> {
+        let now = self.seconds(rt)?;
+        let served = &self.served;
+        let summaries = served.zones.summaries.as_slice();
+        self.copies
+            .follow(rt.alloc(), &served.config, summaries, now)?;
+        Ok(())
+    }
+
+    /// Goes on to another generation.
+    fn go_on(&mut self, rt: &HostRuntime, served: Served) -> anyhow::Result<()> {
+        self.served = served;
+        self.phase = Phase::Renewed;
+        self.follow_copies(rt)
+    }
+
+    /// Starts a thread for each listener, in which it serves.
+    fn start<R: Clock + Threads + Wait + Copy + Send + Sync + 'static>(
+        &mut self,
+        machine: R,
+        alloc: Global,
+    ) -> anyhow::Result<Vec<Running>> {
+        let served = &self.served;
+        let zones = &served.zones.service;
+        let service = layered(
+            alloc,
+            &served.settings,
+            zones,
+            self.copies.target(),
+            &self.counts,
+        )?;
+        let listeners = mem::replace(&mut self.listeners, Vec::new(alloc));
+        let mut running = Vec::new(alloc);
+        for listener in listeners {
+            let settings = &self.served.settings;
+            running.push(Running::start(machine, alloc, listener, settings, &service)?)?;
+        }
+        Ok(running)
+    }
+
+    /// Takes the listeners back, each once it has ended.
+    fn take_back<R: Threads>(
+        &mut self,
+        machine: &R,
+        rt: &HostRuntime,
+        running: Vec<Running>,
+    ) -> anyhow::Result<()> {
+        for one in running {
+            let (listener, end) = one.join(machine);
+            if end != HostEnd::Done {
+                error!(rt; "{}: an accept, a thread, a receive or a send failed", Shown(listener.address));
+            }
+            self.listeners.push(listener)?;
+        }
+        Ok(())
+    }
+
+    /// Appends a line for each zone, behind what stands before.
+    fn say_zones(&self, alloc: Global, caller: &mut Caller) -> anyhow::Result<()> {
+        let served = &self.served;
+        let text = report(alloc, &served.config, served.zones.summaries.as_slice())?;
+        caller.say(text.as_str())?;
+        Ok(())
+    }
+
+    /// Says what is served, and how many replies were given.
     fn say_status(&self, rt: &HostRuntime, caller: &mut Caller) -> anyhow::Result<()> {
+        let alloc = rt.alloc();
         let seconds = self.seconds(rt)?;
         let number = self.served.number;
-        let report = self.served.report.as_str();
-        let text = format!(in rt.alloc(); "ok\ngeneration {number}, up for {seconds} s\n{report}")?;
+        let text = format!(in alloc; "ok\ngeneration {number}, up for {seconds} s\n")?;
+        caller.say(text.as_str())?;
+        self.say_zones(alloc, caller)?;
+        let text = counted(alloc, &self.counts)?;
         caller.say(text.as_str())?;
         Ok(())
     }
 
     /// Says what is known of each copy.
-    fn say_transfers(&self, rt: &HostRuntime, caller: &mut Caller) -> anyhow::Result<()> {
-        let text = self.copies.report(rt.alloc())?;
+    fn say_transfers(&self, alloc: Global, caller: &mut Caller) -> anyhow::Result<()> {
+        let text = self.copies.report(alloc)?;
         caller.say("ok\n")?;
         caller.say(text.as_str())?;
         Ok(())
     }
 
-    /// Whether a listener has ended by itself.
-    fn has_ended<R: Wait>(&mut self, machine: &R) -> bool {
-        for closer in self.closers.iter_mut() {
-            if closer.is_closed(machine) {
-                return true;
-            }
-        }
-        false
+    /// Reads and judges what follows; where it is refused, what is served stays.
+    fn following(&self, rt: &HostRuntime) -> anyhow::Result<Served> {
+        let number = self.served.number.saturating_add(1);
+        Served::load(rt, number, self.path.as_str(), self.copies.as_slice())
     }
 
-    /// Shuts each listener down.
-    fn close_all<R: Wait>(&mut self, machine: &R) {
-        for closer in self.closers.iter_mut() {
-            closer.close(machine);
-        }
-    }
-
-    /// Reads and judges what follows, and says so; where it is refused, what is served stays.
-    fn reload(&self, rt: &HostRuntime, caller: &mut Caller) -> anyhow::Result<Option<Next>> {
-        match self
-            .served
-            .following(rt, self.path.as_str(), self.copies.as_slice())
-        {
-            Ok(next) => {
+    /// Goes on to what follows, if it isn't refused, and says so.
+    fn reload(&mut self, rt: &HostRuntime, caller: &mut Caller) -> anyhow::Result<()> {
+        match self.following(rt) {
+            Ok(served) => {
+                self.go_on(rt, served)?;
                 caller.say("ok\n")?;
-                caller.say(next.report.as_str())?;
-                Ok(Some(Next::Generation(next)))
+                self.say_zones(rt.alloc(), caller)
             }
-            Err(fault) => {
-                error!(rt; "reload refused: {fault:#}");
-                let text = format!(in rt.alloc(); "refused: {fault:#}\n")?;
-                caller.say(text.as_str())?;
-                Ok(None)
-            }
+            Err(fault) => refuse(rt, caller, &fault),
         }
     }
 
-    /// Does what a caller asks. What follows is given, if something does.
-    fn obey(&self, rt: &HostRuntime, caller: &mut Caller) -> anyhow::Result<Option<Next>> {
+    /// Does what a caller asks.
+    fn obey(&mut self, rt: &HostRuntime, caller: &mut Caller) -> anyhow::Result<()> {
         match caller.order(rt.alloc())? {
-            Some(Order::Status) => {
-                self.say_status(rt, caller)?;
-                Ok(None)
-            }
-            Some(Order::Transfers) => {
-                self.say_transfers(rt, caller)?;
-                Ok(None)
-            }
-            Some(Order::Reload) => self.reload(rt, caller),
+            Some(Order::Status) => self.say_status(rt, caller)?,
+            Some(Order::Transfers) => self.say_transfers(rt.alloc(), caller)?,
+            Some(Order::Reload) => self.reload(rt, caller)?,
             Some(Order::Stop) => {
+                self.phase = Phase::Stopped;
                 caller.say("ok\n")?;
-                Ok(Some(Next::Stop))
             }
-            None => {
-                caller.say("no such order\n")?;
-                Ok(None)
-            }
+            None => caller.say("no such order\n")?,
         }
+        Ok(())
     }
 
     /// Does what the next caller asks, if there is one. A caller that can't be heard or told is left.
-    fn obey_next(&self, rt: &HostRuntime) -> Option<Next> {
-        let control = self.control.as_ref()?;
-        let mut caller = control.caller()?;
-        match self.obey(rt, &mut caller) {
-            Ok(next) => next,
-            Err(fault) => {
+    fn obey_next(&mut self, rt: &HostRuntime) {
+        let caller = match &self.control {
+            Some(control) => control.caller(),
+            None => None,
+        };
+        if let Some(mut caller) = caller {
+            if let Err(fault) = self.obey(rt, &mut caller) {
                 error!(rt; "control: {fault:#}");
-                None
             }
         }
     }
 
-    /// What follows where another copy came, or one went.
-    fn renewed(&self, rt: &HostRuntime) -> Option<Next> {
-        match self.served.renewed(rt, self.copies.as_slice()) {
-            Ok(served) => Some(Next::Generation(served)),
-            Err(fault) => {
-                error!(rt; "the zones can't be read again: {fault:#}");
-                None
-            }
-        }
-    }
-
-    /// Looks at the copies and at those who were told of a serial. What follows is given, if something does.
+    /// Looks at the copies and at those who were told of a serial. Where another copy came, or one went, the zones are read and
+    /// judged again.
     fn look<R: Net + Threads + Copy + Send + 'static>(
         &mut self,
         machine: &R,
         rt: &HostRuntime,
-    ) -> anyhow::Result<Option<Next>> {
+    ) -> anyhow::Result<()> {
         let now = self.seconds(rt)?;
         self.notifier.look(rt, now.saturating_mul(MILLIS))?;
         if self.copies.look(machine, rt, now)? {
-            return Ok(self.renewed(rt));
+            let served = self.served.renewed(rt, self.copies.as_slice())?;
+            self.go_on(rt, served)?;
         }
-        Ok(None)
-    }
-
-    /// What follows, if something does: what a caller asks, or what the copies lead to.
-    fn next<R: Net + Threads + Copy + Send + 'static>(
-        &mut self,
-        machine: &R,
-        rt: &HostRuntime,
-    ) -> Option<Next> {
-        if let Some(next) = self.obey_next(rt) {
-            return Some(next);
-        }
-        match self.look(machine, rt) {
-            Ok(next) => next,
-            Err(fault) => {
-                error!(rt; "{fault:#}");
-                None
-            }
-        }
-    }
-
-    /// Goes on to a generation.
-    fn go_on(&mut self, rt: &HostRuntime, served: Served) -> anyhow::Result<()> {
-        let now = self.seconds(rt)?;
-        let summaries = served.summaries.as_slice();
-        self.copies
-            .follow(rt.alloc(), &served.config, summaries, now)?;
-        self.served = served;
         Ok(())
     }
 
-    /// Goes on to what follows.
-    fn follow(&mut self, rt: &HostRuntime, next: Next) -> anyhow::Result<()> {
-        match next {
-            Next::Generation(served) => self.go_on(rt, served),
-            Next::Stop => {
-                self.stopped = true;
-                Ok(())
-            }
+    /// Does what a caller asks, or what the copies lead to. What fails is logged, and what is served stays.
+    fn turn<R: Net + Threads + Copy + Send + 'static>(&mut self, machine: &R, rt: &HostRuntime) {
+        self.obey_next(rt);
+        if self.phase != Phase::Serving {
+            return;
+        }
+        if let Err(fault) = self.look(machine, rt) {
+            error!(rt; "{fault:#}");
         }
     }
 
-    /// Waits until another generation follows, or the server is stopped, or a listener ends by itself, and shuts the listeners
-    /// down.
-    pub(crate) fn wait<R: Net + Threads + Wait + Clock + Copy + Send + 'static>(
+    /// Waits until another generation is to be served, or none, or a listener ends by itself. Then each listener is shut down.
+    fn wait<R: Net + Threads + Wait + Clock + Copy + Send + 'static>(
         &mut self,
         machine: &R,
         rt: &HostRuntime,
-    ) -> anyhow::Result<()> {
+        running: &mut [Running],
+    ) {
         for _ in machine.forever() {
-            if self.has_ended(machine) {
+            if has_ended(machine, running) {
                 error!(rt; "a listener ended by itself; all are started again");
                 thread::sleep(machine, Duration::from_millis(PAUSE_MILLIS));
                 break;
             }
-            if let Some(next) = self.next(machine, rt) {
-                self.follow(rt, next)?;
+            self.turn(machine, rt);
+            if self.phase != Phase::Serving {
                 break;
             }
             thread::sleep(machine, Duration::from_millis(LOOK_MILLIS));
         }
-        self.close_all(machine);
+        close_all(machine, running);
+    }
+
+    /// Tells of the serials that are served. That this fails is logged.
+    fn tell<R: Net + RandomSource>(&mut self, machine: &R, rt: &HostRuntime) -> anyhow::Result<()> {
+        let now = self.seconds(rt)?.saturating_mul(MILLIS);
+        self.notifier.tell_changes(machine, rt, &self.served, now)
+    }
+
+    /// Serves a generation until another one is to be served, or none, or a listener ends by itself.
+    fn serve_generation<
+        R: Net + Clock + RandomSource + Threads + Wait + Copy + Send + Sync + 'static,
+    >(&mut self, machine: R, rt: &HostRuntime) -> anyhow::Result<()> {
+        info!(rt; "generation {} is served", self.served.number);
+        self.phase = Phase::Serving;
+        if let Err(fault) = self.tell(&machine, rt) {
+            error!(rt; "NOTIFY: {fault:#}");
+        }
+        let mut running = self.start(machine, rt.alloc())?;
+        self.wait(&machine, rt, running.as_mut_slice());
+        self.take_back(&machine, rt, running)
+    }
+
+    /// Opens all sockets, and serves generation after generation until the server is stopped.
+    fn run<R: Net + Files + Clock + RandomSource + Threads + Wait + Copy + Send + Sync + 'static>(
+        &mut self,
+        machine: R,
+        rt: &HostRuntime,
+    ) -> anyhow::Result<()> {
+        self.open(&machine, rt)?;
+        for _ in machine.forever() {
+            self.serve_generation(machine, rt)?;
+            if self.phase == Phase::Stopped {
+                break;
+            }
+        }
         Ok(())
     }
+
+    /// Ends the checks of copies, and removes the control socket.
+    fn end<R: Files + Threads>(self, machine: &R) {
+        let Server {
+            copies,
+            control,
+            ..
+        } = self;
+        copies.end(machine);
+        if let Some(control) = control {
+            control.remove(machine);
+        }
+    }
+}
+
+/// Serves by a configuration until the server is stopped.
+pub(crate) fn serve<
+    R: Net + Files + Clock + RandomSource + Threads + Wait + Copy + Send + Sync + 'static,
+>(machine: R, rt: &HostRuntime, path: &str) -> anyhow::Result<()> {
+    let mut server = Server::new(rt, path)?;
+    let outcome = server.run(machine, rt);
+    server.end(&machine);
+    outcome
 }
