@@ -1,3 +1,17 @@
+pub use Rattle.dns_service.specs.declared.service.ServiceFeedback
+pub use Rattle.dns_service.specs.declared.service.Polled
+pub use Rattle.dns_service.specs.declared.message.TransportSpecificContext
+pub use Rattle.dns_service.specs.declared.invoker.InvokerStatus
+pub use Rattle.dns_service.specs.declared.invoker.Enqueued
+pub use Rattle.dns_service.specs.Transport
+pub use Rattle.dns_service.specs.Req
+pub use Rattle.dns_service.specs.PolledRequest
+pub use Rattle.dns_service.specs.Given
+pub use Rattle.dns_service.specs.Errors
+pub use Rattle.dns_service.specs.ErrorReply
+pub use Rattle.dns_service.specs.Cut
+pub use Rattle.dns_service.specs.Config
+pub use Rattle.dns_service.specs.Answer
 pub use Rattle.dns_base.specs.Wire
 pub use Rattle.dns_service.specs.Invokers
 pub mod Frames
@@ -5,3 +19,4 @@ pub mod Timers
 pub mod Budget
 pub mod Transactions
 pub mod Invoker
+pub mod Polls

@@ -36,6 +36,11 @@ mod reply;
 mod timer;
 
 pub use budget::ResponseBudget;
+pub use dns_service::{
+    Dispatched, InvokerStatus, NonUdpTransportContext, Polled, PolledRequest, ReplyFuture,
+    ReplyStream, Request, ServiceInvoker, ServiceResult, SharedService, TransportSpecificContext,
+    UdpTransportContext, fit, limit_over, mk_error_response, reply_limit,
+};
 pub use framer::{Framer, first_of};
 pub use invoker::{ConnectionInvoker, is_in_transaction};
 pub use reply::frame_of;

@@ -7,9 +7,9 @@ use Rattle.std.proofs.lemmas.Bool.{le-ltb}
 use Rattle.circular_buffer.specs.Buffer.{buffer}
 use Rattle.dns_name.specs.declared.address.SocketAddr.{SocketAddr}
 use Rattle.dns_base.specs.Header.{header_of}
-use Rattle.dns_service.specs.Answer.{Answer}
-use Rattle.dns_service.specs.Config.{Dgram, Connection, Stream}
-use Rattle.dns_service.specs.Req.{Req}
+use Rattle.dns_framing.specs.Answer.{Answer}
+use Rattle.dns_framing.specs.Config.{Dgram, Connection, Stream}
+use Rattle.dns_framing.specs.Req.{Req}
 use Rattle.dns_events.specs.declared.event.Output.{Output}
 use Rattle.dns_session.specs.Budget.{unspent}
 use Rattle.dns_session.specs.Frames.{frames}
@@ -20,13 +20,13 @@ use Rattle.dns_session.specs.Connections.{opened}
 use Rattle.dns_session.specs.Stands.{IsExchange, IsGoing, IsKeptOfRequest, IsOpen, KeepsAll, Keeps, sole}
 use Rattle.dns_session.specs.Turns.{limit_for}
 use Rattle.dns_session.specs.Unfinished.{IsInOrder, request_at}
-use Rattle.dns_service.specs.declared.invoker.InvokerStatus.TheVariants.{Normal}
+use Rattle.dns_framing.specs.InvokerStatus.TheVariants.{Normal}
 use Rattle.dns_session.specs.declared.connection_request.ConnectionRequest.{ConnectionRequest}
 use Rattle.dns_framing.specs.declared.invoker.ConnectionInvoker.{ConnectionInvoker}
 use Rattle.dns_session.specs.declared.kept.KeptRequest.{KeptRequest}
 use Rattle.dns_session.specs.declared.connection.OpenConnection.{OpenConnection}
 use Rattle.dns_session.specs.declared.unfinished.Unfinished.{Unfinished}
-use Rattle.dns_service.specs.declared.polled.PolledRequest.{PolledRequest}
+use Rattle.dns_framing.specs.Polls.{PolledRequest}
 use Rattle.dns_session.proofs.Keeping.{none_sole}
 
 module _ {R F : Type 0} (answer : PolledRequest F R → ℕ → Answer) (answers : Serving) where

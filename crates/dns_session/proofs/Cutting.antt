@@ -7,7 +7,7 @@ use Rattle.std.proofs.lemmas.Bool.{cases_lt}
 use Rattle.dns_events.specs.declared.event.Output.{Output}
 use Rattle.dns_base.specs.Header.{header_of}
 use Rattle.dns_base.specs.Wire.{wire}
-use Rattle.dns_service.specs.ErrorReply.{error_reply}
+use Rattle.dns_framing.specs.ErrorReply.{error_reply}
 use Rattle.dns_session.specs.Frames.{frames, framed, behind_frames}
 use Rattle.dns_session.specs.Rule.{in_phase}
 use Rattle.dns_session.specs.Slate.{Slate, Effect, Phase, Unused, Open, Closed}

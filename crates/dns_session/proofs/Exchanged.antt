@@ -1,10 +1,10 @@
 -- What an event does to an exchange.
 use Rattle.dns_session.specs.Serving.{Serving}
 use Rattle.std.proofs.Common.{◌≡◌, ℕ, List, Option, refl, sym, subst}
-use Rattle.dns_service.specs.Answer.{Answer}
+use Rattle.dns_framing.specs.Answer.{Answer}
 use Rattle.dns_events.specs.declared.event.Event.{Event}
 use Rattle.dns_events.specs.declared.event.Output.{Output}
-use Rattle.dns_service.specs.declared.polled.PolledRequest.{PolledRequest}
+use Rattle.dns_framing.specs.Polls.{PolledRequest}
 use Rattle.dns_session.specs.Rule.{rule, in_phase, exchange_rule}
 use Rattle.dns_session.specs.Slate.{Slate, Effect, Phase, Exchange, Conf, conf_rule, with_conf}
 use Rattle.dns_session.specs.Goings.{Exchanges}

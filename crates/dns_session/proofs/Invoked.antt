@@ -3,15 +3,15 @@ use Rattle.std.proofs.Common.{◌≡◌, ℕ, List, [], ◌∷◌, ◌++◌, Opt
 use Rattle.std.specs.Prelude.{if◌then◌else◌, Ok, Err}
 use Rattle.dns_base.specs.Msg.{Msg}
 use Rattle.dns_base.specs.Wire.{wire}
-use Rattle.dns_service.specs.Answer.{Answer}
-use Rattle.dns_service.specs.Invokers.{after_answer, after_reply, after_some_feedback}
-use Rattle.dns_service.specs.declared.invoker.Enqueued.{Enqueued}
-use Rattle.dns_service.specs.declared.invoker.Enqueued.TheVariants.{Queued, Held, Dropped}
-use Rattle.dns_service.specs.declared.invoker.InvokerStatus.{InvokerStatus}
-use Rattle.dns_service.specs.declared.invoker.InvokerStatus.TheVariants.{Aborting}
-use Rattle.dns_service.specs.declared.service.Polled.TheVariants.{Pending, Ready}
-use Rattle.dns_service.specs.declared.service.ServiceFeedback.{ServiceFeedback}
-use Rattle.dns_service.specs.declared.service.ServiceFeedback.TheVariants.{Reconfigure, BeginTransaction, EndTransaction}
+use Rattle.dns_framing.specs.Answer.{Answer}
+use Rattle.dns_framing.specs.Invokers.{after_answer, after_reply, after_some_feedback}
+use Rattle.dns_framing.specs.Enqueued.{Enqueued}
+use Rattle.dns_framing.specs.Enqueued.TheVariants.{Queued, Held, Dropped}
+use Rattle.dns_framing.specs.InvokerStatus.{InvokerStatus}
+use Rattle.dns_framing.specs.InvokerStatus.TheVariants.{Aborting}
+use Rattle.dns_framing.specs.Polled.TheVariants.{Pending, Ready}
+use Rattle.dns_framing.specs.ServiceFeedback.{ServiceFeedback}
+use Rattle.dns_framing.specs.ServiceFeedback.TheVariants.{Reconfigure, BeginTransaction, EndTransaction}
 use Rattle.dns_session.specs.Budget.{Spending, spend}
 use Rattle.dns_session.specs.Connections.{is_in_transaction}
 use Rattle.dns_session.specs.Frames.{framed}

@@ -7,8 +7,8 @@ use Rattle.std.proofs.lemmas.Bool.{cases_eq, cases_lt}
 use Rattle.std.proofs.lemmas.Option.{slice_get_within, slice_get_past}
 use Rattle.circular_buffer.proofs.Places.{slice_get-set_same, slice_get-set_other, slice_get-append_left, slice_get-last}
 use Rattle.dns_base.specs.Msg.{Msg}
-use Rattle.dns_service.specs.Answer.{Answer}
-use Rattle.dns_service.specs.declared.polled.PolledRequest.{PolledRequest}
+use Rattle.dns_framing.specs.Answer.{Answer}
+use Rattle.dns_framing.specs.Polls.{PolledRequest}
 use Rattle.dns_session.specs.Slate.{SlateRequest}
 use Rattle.dns_session.specs.Turns.{polled, ends, limit_for, reply_to, sent_for}
 use Rattle.dns_session.specs.IsPolled.{IsPolled}

@@ -4,11 +4,11 @@ use Rattle.std.proofs.Common.{◌≡◌, ℕ, List, [], Option, Some, None, Bool
 use Rattle.std.specs.Prelude.{option_map, slice_get}
 use Rattle.dns_base.specs.Msg.{Msg}
 use Rattle.dns_base.specs.Wire.{wire}
-use Rattle.dns_service.specs.Answer.{Answer}
+use Rattle.dns_framing.specs.Answer.{Answer}
 use Rattle.dns_events.specs.declared.event.Event.{Event}
 use Rattle.dns_events.specs.declared.event.EventKind.TheVariants.{Turn}
 use Rattle.dns_events.specs.declared.event.Output.{Output}
-use Rattle.dns_service.specs.declared.polled.PolledRequest.{PolledRequest}
+use Rattle.dns_framing.specs.Polls.{PolledRequest}
 use Rattle.dns_session.specs.Datagrams.{datagrams_to}
 use Rattle.dns_session.specs.News.{wide}
 use Rattle.dns_session.specs.IsPolled.{IsPolled}

@@ -1,9 +1,9 @@
 -- What a client's state is after a step of a connection.
 use Rattle.dns_session.specs.Serving.{Serving}
 use Rattle.std.proofs.Common.{◌≡◌, ℕ, List, false, refl, ◌∙◌, subst, sym}
-use Rattle.dns_service.specs.Answer.{Answer}
+use Rattle.dns_framing.specs.Answer.{Answer}
 use Rattle.dns_events.specs.declared.event.Output.{Output}
-use Rattle.dns_service.specs.declared.polled.PolledRequest.{PolledRequest}
+use Rattle.dns_framing.specs.Polls.{PolledRequest}
 use Rattle.dns_session.specs.Slate.{Slate, Effect}
 use Rattle.dns_session.specs.Goings.{IsLeft, Leads, LeadsOn, StateGoes, outputs_of, state_behind}
 use Rattle.dns_session.specs.Stands.{IsFlushing, StandsIn, state_is_open}

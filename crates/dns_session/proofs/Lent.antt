@@ -5,9 +5,9 @@ use Rattle.std.specs.Prelude.{◌==◌, MatchOption}
 use Rattle.std.proofs.lemmas.Bool.{eqb-true}
 use Rattle.std.proofs.lemmas.List.{nil_from_length, take_rest}
 use Rattle.dns_base.specs.Header.{header_of}
-use Rattle.dns_service.specs.Answer.{Answer}
+use Rattle.dns_framing.specs.Answer.{Answer}
 use Rattle.dns_events.specs.declared.event.Why.TheVariants.{Short}
-use Rattle.dns_service.specs.declared.polled.PolledRequest.{PolledRequest}
+use Rattle.dns_framing.specs.Polls.{PolledRequest}
 use Rattle.dns_session.specs.Frames.{first_frame, framed, frames}
 use Rattle.dns_session.specs.Connections.{piece, take_frames}
 use Rattle.dns_session.specs.Goings.{Leads, TakesLent, TakesMessage}

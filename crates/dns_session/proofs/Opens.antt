@@ -2,8 +2,8 @@
 use Rattle.dns_session.specs.Serving.{Serving}
 use Rattle.std.proofs.Common.{◌≡◌, ℕ, ◌≤◌, length, Bool, false, ap, sym, ◌∙◌}
 use Rattle.dns_name.specs.declared.address.SocketAddr.{SocketAddr}
-use Rattle.dns_service.specs.Answer.{Answer}
-use Rattle.dns_service.specs.declared.polled.PolledRequest.{PolledRequest}
+use Rattle.dns_framing.specs.Answer.{Answer}
+use Rattle.dns_framing.specs.Polls.{PolledRequest}
 use Rattle.dns_session.specs.Connections.{spending}
 use Rattle.dns_session.specs.Frames.{frames, past}
 use Rattle.dns_session.specs.Slate.{Slate, Phase}

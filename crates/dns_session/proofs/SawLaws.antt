@@ -5,13 +5,13 @@ use Rattle.std.specs.Prelude.{if◌then◌else◌, ◌==◌, not, ◌&&◌}
 use Rattle.std.proofs.lemmas.Bool.{eq-eqb, ne_eqb}
 use Rattle.std.proofs.lemmas.List.{append-nil}
 use Rattle.dns_events.specs.declared.look.Look.{Look}
-use Rattle.dns_service.specs.Answer.{Answer}
-use Rattle.dns_service.specs.Config.{Connection, Dgram, Stream}
+use Rattle.dns_framing.specs.Answer.{Answer}
+use Rattle.dns_framing.specs.Config.{Connection, Dgram, Stream}
 use Rattle.dns_events.specs.declared.event.Event.{Event}
 use Rattle.dns_events.specs.declared.event.EventKind.TheVariants.{Reconfigure, Shutdown}
 use Rattle.dns_events.specs.declared.event.Output.{Output}
 use Rattle.dns_events.specs.declared.event.Why.TheVariants.{Shutdown as By_shutdown}
-use Rattle.dns_service.specs.declared.polled.PolledRequest.{PolledRequest}
+use Rattle.dns_framing.specs.Polls.{PolledRequest}
 use Rattle.dns_session.specs.After.{slate_after, sent_after}
 use Rattle.dns_session.specs.Connections.{reconfigured, wind_up}
 use Rattle.dns_session.specs.News.{wide, new_configurations, news, look_effect}

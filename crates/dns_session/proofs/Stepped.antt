@@ -5,8 +5,8 @@ use Rattle.std.specs.Prelude.{◌==◌, slice_get, if◌then◌else◌, not, is_
 use Rattle.std.proofs.lemmas.Bool.{eqb-false, eqb-true}
 use Rattle.std.proofs.lemmas.List.{nil_from_length}
 use Rattle.std.specs.List.{list_all}
-use Rattle.dns_service.specs.Answer.{Answer}
-use Rattle.dns_service.specs.Config.{Connection, Dgram, Stream}
+use Rattle.dns_framing.specs.Answer.{Answer}
+use Rattle.dns_framing.specs.Config.{Connection, Dgram, Stream}
 use Rattle.dns_events.specs.declared.event.Event.{Event}
 use Rattle.dns_events.specs.declared.event.EventKind.{EventKind}
 use Rattle.dns_events.specs.declared.event.EventKind.TheVariants.{Piece, Turn, Write, Reconfigure}
@@ -25,7 +25,7 @@ use Rattle.dns_session.specs.declared.kept.KeptRequest.{KeptRequest}
 use Rattle.dns_session.specs.declared.flushing.FlushingConnection.{FlushingConnection}
 use Rattle.dns_session.specs.declared.outcome.Outcome.{Outcome}
 use Rattle.dns_session.specs.declared.outcome.Outcome.TheVariants.{Nothing, WindsUp, Ends}
-use Rattle.dns_service.specs.declared.polled.PolledRequest.{PolledRequest}
+use Rattle.dns_framing.specs.Polls.{PolledRequest}
 use Rattle.dns_session.proofs.Opens.{open_on}
 
 -- the rule of the phase that a client is in

@@ -3,7 +3,7 @@ use Rattle.std.proofs.Common.{◌≡◌, ℕ, ◌+◌, List, [], ◌∷◌, ◌+
 use Rattle.std.specs.Prelude.{nat_lt, if◌then◌else◌}
 use Rattle.dns_base.specs.Header.{header_of}
 use Rattle.dns_base.specs.Wire.{wire}
-use Rattle.dns_service.specs.ErrorReply.{error_reply}
+use Rattle.dns_framing.specs.ErrorReply.{error_reply}
 use Rattle.dns_session.specs.Frames.{framed}
 use Rattle.dns_session.specs.Slate.{Slate}
 use Rattle.dns_session.specs.Requests.{most_requests, request_of_frame, unpolled}

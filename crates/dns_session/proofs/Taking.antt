@@ -6,9 +6,9 @@ use Rattle.std.proofs.lemmas.Bool.{false≢true, le-ltb}
 use Rattle.dns_name.specs.declared.address.SocketAddr.{SocketAddr}
 use Rattle.dns_base.specs.Header.{header_of}
 use Rattle.dns_base.specs.Wire.{wire}
-use Rattle.dns_service.specs.Answer.{Answer}
-use Rattle.dns_service.specs.ErrorReply.{error_reply}
-use Rattle.dns_service.specs.Req.{Req}
+use Rattle.dns_framing.specs.Answer.{Answer}
+use Rattle.dns_framing.specs.ErrorReply.{error_reply}
+use Rattle.dns_framing.specs.Req.{Req}
 use Rattle.dns_events.specs.declared.event.Output.TheVariants.{Closed as Closed_output}
 use Rattle.dns_events.specs.declared.event.Why.TheVariants.{Short}
 use Rattle.dns_session.specs.Frames.{first_frame, framed, frames, past}
@@ -23,7 +23,7 @@ use Rattle.dns_session.specs.declared.client.State.TheVariants.{Open as Is_open}
 use Rattle.dns_session.specs.declared.connection.OpenConnection.{OpenConnection}
 use Rattle.dns_session.specs.declared.outcome.Outcome.{Outcome}
 use Rattle.dns_session.specs.declared.outcome.Outcome.TheVariants.{Nothing, Ends}
-use Rattle.dns_service.specs.declared.polled.PolledRequest.{PolledRequest}
+use Rattle.dns_framing.specs.Polls.{PolledRequest}
 use Rattle.dns_session.specs.declared.connection_request.ConnectionRequest.{ConnectionRequest}
 use Rattle.dns_framing.specs.declared.invoker.ConnectionInvoker.{ConnectionInvoker}
 use Rattle.dns_session.proofs.Keeping.{keeps_push}

@@ -4,9 +4,9 @@ use Rattle.std.proofs.Common.{◌≡◌, ◌≢◌, ℕ, [], Bool, true, false, 
 use Rattle.std.specs.Prelude.{◌==◌, ◌&&◌, if◌then◌else◌}
 use Rattle.std.proofs.Math.Bool.{and-false}
 use Rattle.std.proofs.lemmas.Bool.{ne_eqb}
-use Rattle.dns_service.specs.Answer.{Answer}
+use Rattle.dns_framing.specs.Answer.{Answer}
 use Rattle.dns_events.specs.declared.event.Why.TheVariants.{Idle}
-use Rattle.dns_service.specs.declared.polled.PolledRequest.{PolledRequest}
+use Rattle.dns_framing.specs.Polls.{PolledRequest}
 use Rattle.dns_session.specs.Connections.{close, in_transaction, tick}
 use Rattle.dns_session.specs.Slate.{Slate, Effect}
 use Rattle.dns_session.specs.Goings.{Leads, outputs_of, state_behind}

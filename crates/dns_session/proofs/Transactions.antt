@@ -3,7 +3,7 @@ use Rattle.std.proofs.Common.{◌≡◌, ℕ, zero, suc, ◌+◌, ◌-◌, ◌�
 use Rattle.std.specs.Prelude.{◌==◌, slice_get, filter, min, not, ◌&&◌, ◌||◌, if◌then◌else◌}
 use Rattle.std.specs.List.{list_any}
 use Rattle.std.proofs.Math.Dec.{eqb-suc-zero}
-use Rattle.dns_service.specs.Req.{Req}
+use Rattle.dns_framing.specs.Req.{Req}
 use Rattle.dns_session.specs.Slate.{SlateRequest}
 use Rattle.dns_session.specs.Requests.{unpolled}
 use Rattle.dns_session.specs.Connections.{in_transaction}

@@ -3,9 +3,9 @@ use Rattle.dns_session.specs.Serving.{Serving}
 use Rattle.std.proofs.Common.{◌≡◌, ℕ, suc, ◌+◌, List, [], ◌∷◌, ◌++◌, length, Option, Some, None, Bool, true, false, refl, ap, sym, ◌∙◌, arith, set, length-set, subst}
 use Rattle.std.specs.Arc.{arc_value}
 use Rattle.std.specs.Prelude.{slice_get, nat_lt, ◌&&◌, if◌then◌else◌}
-use Rattle.dns_service.specs.Answer.{Answer}
-use Rattle.dns_service.specs.declared.invoker.InvokerStatus.{InvokerStatus}
-use Rattle.dns_service.specs.declared.polled.PolledRequest.{PolledRequest}
+use Rattle.dns_framing.specs.Answer.{Answer}
+use Rattle.dns_framing.specs.InvokerStatus.{InvokerStatus}
+use Rattle.dns_framing.specs.Polls.{PolledRequest}
 use Rattle.dns_session.specs.Budget.{Spending, allows, spend}
 use Rattle.dns_session.specs.Connections.{append_frame, enqueue_or_drop, in_transaction, room, spending}
 use Rattle.dns_session.specs.Invoker.{finds_room, offered, queued_behind}

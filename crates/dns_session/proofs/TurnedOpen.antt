@@ -7,10 +7,10 @@ use Rattle.std.proofs.lemmas.Bool.{cases_eq}
 use Rattle.circular_buffer.specs.Buffer.{Buffer}
 use Rattle.dns_base.specs.Msg.{Msg}
 use Rattle.dns_base.specs.Wire.{wire}
-use Rattle.dns_service.specs.Answer.{Answer}
+use Rattle.dns_framing.specs.Answer.{Answer}
 use Rattle.dns_session.specs.Heard.{answer_status, answer_timeout}
-use Rattle.dns_service.specs.declared.invoker.InvokerStatus.{InvokerStatus}
-use Rattle.dns_service.specs.declared.polled.PolledRequest.{PolledRequest}
+use Rattle.dns_framing.specs.InvokerStatus.{InvokerStatus}
+use Rattle.dns_framing.specs.Polls.{PolledRequest}
 use Rattle.dns_session.specs.Budget.{Spending, spend}
 use Rattle.dns_session.specs.Connections.{append_frame, in_transaction, is_in_transaction, room, spending}
 use Rattle.dns_session.specs.Frames.{framed}

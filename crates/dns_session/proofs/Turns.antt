@@ -3,7 +3,7 @@ use Rattle.dns_session.specs.Serving.{Serving}
 use Rattle.std.proofs.Common.{◌≡◌, ℕ, List, [], Bool, Option, Some, None, refl, ap, ◌∙◌}
 use Rattle.std.specs.Prelude.{slice_get}
 use Rattle.dns_base.specs.Msg.{Msg}
-use Rattle.dns_service.specs.Answer.{Answer}
+use Rattle.dns_framing.specs.Answer.{Answer}
 use Rattle.dns_events.specs.declared.event.Output.{Output}
 use Rattle.dns_session.specs.Slate.{Slate, SlateRequest}
 use Rattle.dns_session.specs.Turns.{polled, exchange_turn, sent_at_once}
@@ -11,7 +11,7 @@ use Rattle.dns_session.specs.IsPolled.{IsPolled}
 use Rattle.dns_session.specs.Goings.{Exchanges, unless_done}
 use Rattle.dns_session.specs.Stands.{Keeps}
 use Rattle.dns_session.specs.declared.kept.KeptRequest.{KeptRequest}
-use Rattle.dns_service.specs.declared.polled.PolledRequest.{PolledRequest}
+use Rattle.dns_framing.specs.Polls.{PolledRequest}
 use Rattle.dns_session.proofs.Keeping.{found, sole_set}
 
 module _ {R F : Type 0} (answer : PolledRequest F R → ℕ → Answer) (answers : Serving) where

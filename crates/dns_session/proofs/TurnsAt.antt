@@ -3,8 +3,8 @@ use Rattle.std.proofs.Common.{◌≡◌, ℕ, ◌+◌, ◌<◌, length, get_or, 
 use Rattle.std.specs.Prelude.{not, ◌&&◌, if◌then◌else◌}
 use Rattle.std.specs.Ordering.{nat_cmp}
 use Rattle.std.specs.BTreeMap.{get}
-use Rattle.dns_service.specs.Answer.{Answer}
-use Rattle.dns_service.specs.declared.polled.PolledRequest.{PolledRequest}
+use Rattle.dns_framing.specs.Answer.{Answer}
+use Rattle.dns_framing.specs.Polls.{PolledRequest}
 use Rattle.dns_session.specs.Connections.{is_in_transaction}
 use Rattle.dns_session.specs.TurnedAt.{TurnsBy, TurnedAt}
 use Rattle.dns_session.specs.Unfinished.{ChangesAt, IsInOrder, LetsGo, request_at, row_start}

@@ -3,8 +3,8 @@ use Rattle.dns_session.specs.Serving.{Serving}
 use Rattle.std.proofs.Common.{◌≡◌, ℕ, zero, suc, ◌+◌, ◌-◌, ◌<◌, ◌≤◌, List, [], ◌∷◌, drop, Option, Some, None, Bool, true, false, refl, ap, sym, ◌∙◌, arith, subst, zero-add}
 use Rattle.std.specs.Prelude.{slice_get, is_some, not}
 use Rattle.std.proofs.lemmas.Bool.{not-false, not-true}
-use Rattle.dns_service.specs.Answer.{Answer}
-use Rattle.dns_service.specs.declared.polled.PolledRequest.{PolledRequest}
+use Rattle.dns_framing.specs.Answer.{Answer}
+use Rattle.dns_framing.specs.Polls.{PolledRequest}
 use Rattle.dns_session.specs.Slate.{Slate, SlateRequest}
 use Rattle.dns_session.specs.Stands.{IsOpen, Keeps, KeepsGoing, StandsIn, sole, sole_number}
 use Rattle.dns_session.specs.Unfinished.{IsFirstFrom, request_at}

@@ -5,8 +5,8 @@ use Rattle.std.specs.List.{list_any}
 use Rattle.dns_name.specs.declared.address.SocketAddr.{SocketAddr}
 use Rattle.dns_base.specs.Header.{header_of}
 use Rattle.dns_base.specs.Wire.{wire}
-use Rattle.dns_service.specs.Config.{Connection}
-use Rattle.dns_service.specs.ErrorReply.{error_reply}
+use Rattle.dns_framing.specs.Config.{Connection}
+use Rattle.dns_framing.specs.ErrorReply.{error_reply}
 use Rattle.dns_events.specs.declared.event.Output.TheVariants.{Frame, Closed as Closed_output}
 use Rattle.dns_events.specs.declared.event.Why.{Why}
 use Rattle.dns_events.specs.declared.event.Why.TheVariants.{Short, Idle, WriteTimeout}

@@ -4,10 +4,10 @@ use Rattle.std.specs.Prelude.{ℕ, List, [], ◌∷◌, length, take, nat_lt, Bo
 use Rattle.dns_name.specs.declared.address.SocketAddr.{SocketAddr}
 use Rattle.dns_base.specs.Header.{header_of}
 use Rattle.dns_base.specs.Wire.{wire}
-use Rattle.dns_service.specs.Config.{Dgram}
-use Rattle.dns_service.specs.Cut.{cut}
-use Rattle.dns_service.specs.ErrorReply.{error_reply}
-use Rattle.dns_service.specs.Transport.{limit}
+use Rattle.dns_framing.specs.Config.{Dgram}
+use Rattle.dns_framing.specs.Cut.{cut}
+use Rattle.dns_framing.specs.ErrorReply.{error_reply}
+use Rattle.dns_framing.specs.Transport.{limit}
 use Rattle.dns_events.specs.declared.event.Output.{Output}
 use Rattle.dns_events.specs.declared.event.Output.TheVariants.{Datagram}
 use Rattle.dns_session.specs.Slate.{Slate, Effect, Exchange}

@@ -4,10 +4,10 @@ use Rattle.std.specs.Prelude.{◌≡◌, ℕ, ◌<◌, ◌≤◌, List, [], ◌�
 use Rattle.dns_name.specs.declared.address.SocketAddr.{SocketAddr}
 use Rattle.dns_base.specs.Header.{header_of}
 use Rattle.dns_base.specs.Wire.{wire}
-use Rattle.dns_service.specs.Answer.{Answer}
-use Rattle.dns_service.specs.Config.{Dgram}
-use Rattle.dns_service.specs.ErrorReply.{error_reply}
-use Rattle.dns_service.specs.Req.{Req}
+use Rattle.dns_framing.specs.Answer.{Answer}
+use Rattle.dns_framing.specs.Config.{Dgram}
+use Rattle.dns_framing.specs.ErrorReply.{error_reply}
+use Rattle.dns_framing.specs.Req.{Req}
 use Rattle.dns_events.specs.declared.event.Event.{Event}
 use Rattle.dns_events.specs.declared.event.EventKind.{EventKind}
 use Rattle.dns_events.specs.declared.event.EventKind.TheVariants.{Piece, Reconfigure, Turn, Write}
@@ -31,7 +31,7 @@ use Rattle.dns_session.specs.declared.connection.OpenConnection.{OpenConnection}
 use Rattle.dns_session.specs.declared.flushing.FlushingConnection.{FlushingConnection}
 use Rattle.dns_session.specs.declared.outcome.Outcome.{Outcome}
 use Rattle.dns_session.specs.declared.outcome.Outcome.TheVariants.{Nothing, Written, WrittenLast, WindsUp, Ends}
-use Rattle.dns_service.specs.declared.polled.PolledRequest.{PolledRequest}
+use Rattle.dns_framing.specs.Polls.{PolledRequest}
 
 -- an open connection takes memory by octets that came and by turns alone
 abbrev pub takes_memory : EventKind → Bool

@@ -1,11 +1,11 @@
 -- What is heard of the answers to a request: how far it is, and for how long its connection may be idle.
 use Rattle.std.specs.Prelude.{ℕ, Option, Some, None, Ok, Err}
-use Rattle.dns_service.specs.Answer.{Answer, Item}
-use Rattle.dns_service.specs.declared.invoker.InvokerStatus.{InvokerStatus}
-use Rattle.dns_service.specs.declared.invoker.InvokerStatus.TheVariants.{Normal, InTransaction, Aborting}
-use Rattle.dns_service.specs.declared.service.Polled.TheVariants.{Pending, Ready}
-use Rattle.dns_service.specs.declared.service.ServiceFeedback.{ServiceFeedback}
-use Rattle.dns_service.specs.declared.service.ServiceFeedback.TheVariants.{Reconfigure, BeginTransaction, EndTransaction}
+use Rattle.dns_framing.specs.Answer.{Answer, Item}
+use Rattle.dns_framing.specs.InvokerStatus.{InvokerStatus}
+use Rattle.dns_framing.specs.InvokerStatus.TheVariants.{Normal, InTransaction, Aborting}
+use Rattle.dns_framing.specs.Polled.TheVariants.{Pending, Ready}
+use Rattle.dns_framing.specs.ServiceFeedback.{ServiceFeedback}
+use Rattle.dns_framing.specs.ServiceFeedback.TheVariants.{Reconfigure, BeginTransaction, EndTransaction}
 use Rattle.dns_framing.specs.Invoker.{timeout_given}
 
 -- how far a request is after a feedback, and after an item

@@ -2,8 +2,8 @@
 use Rattle.std.specs.Prelude.{◌≡◌, ℕ, suc, Bool, Option}
 use Rattle.std.specs.Arc.{arc_value}
 use Rattle.dns_base.specs.Msg.{Msg}
-use Rattle.dns_service.specs.Answer.{Answer}
-use Rattle.dns_service.specs.declared.polled.PolledRequest.{PolledRequest}
+use Rattle.dns_framing.specs.Answer.{Answer}
+use Rattle.dns_framing.specs.Polls.{PolledRequest}
 use Rattle.dns_session.specs.Turns.{ends, reply_to}
 use Rattle.dns_session.specs.declared.kept.KeptRequest.{KeptRequest}
 

@@ -4,11 +4,11 @@ pub use Rattle.dns_framing.specs.Budget
 pub use Rattle.dns_framing.specs.Frames
 pub use Rattle.dns_framing.specs.Invoker
 pub use Rattle.dns_framing.specs.Timers
-pub use Rattle.dns_service.specs.Answer
-pub use Rattle.dns_service.specs.Given
-pub use Rattle.dns_service.specs.Invokers
-pub use Rattle.dns_service.specs.PolledRequest
-pub use Rattle.dns_service.specs.Req
+pub use Rattle.dns_framing.specs.Answer
+pub use Rattle.dns_framing.specs.Given
+pub use Rattle.dns_framing.specs.Invokers
+pub use Rattle.dns_framing.specs.PolledRequest
+pub use Rattle.dns_framing.specs.Req
 pub mod Serving
 pub mod Slate
 pub mod Requests

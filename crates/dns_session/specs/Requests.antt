@@ -1,10 +1,10 @@
 -- The requests that messages make.
 use Rattle.std.specs.Prelude.{ℕ, List, Some, None, false}
 use Rattle.dns_name.specs.declared.address.SocketAddr.{SocketAddr}
-use Rattle.dns_service.specs.Config.{Dgram}
-use Rattle.dns_service.specs.Req.{Req}
-use Rattle.dns_service.specs.declared.invoker.InvokerStatus.TheVariants.{Normal}
-use Rattle.dns_service.specs.declared.message.TransportSpecificContext.TheVariants.{Udp, NonUdp}
+use Rattle.dns_framing.specs.Config.{Dgram}
+use Rattle.dns_framing.specs.Req.{Req}
+use Rattle.dns_framing.specs.InvokerStatus.TheVariants.{Normal}
+use Rattle.dns_framing.specs.TransportSpecificContext.TheVariants.{Udp, NonUdp}
 use Rattle.dns_session.specs.Slate.{SlateRequest}
 
 -- the octets of a header (RFC 1035, section 4.1.1): what is shorter is no message

@@ -1,7 +1,7 @@
 -- When a client's core stands for a slate. The answers are those of the wrapped service.
 use Rattle.std.specs.Prelude.{◌≡◌, ℕ, zero, suc, ◌+◌, ◌≤◌, List, [], length, filter, slice_get, not, is_some, Bool, true, false, Option, Some, None}
 use Rattle.std.specs.Arc.{arc_value}
-use Rattle.dns_service.specs.Answer.{Answer}
+use Rattle.dns_framing.specs.Answer.{Answer}
 use Rattle.dns_events.specs.declared.event.Output.{Output}
 use Rattle.dns_session.specs.Frames.{frames, past}
 use Rattle.dns_session.specs.Serving.{Serving}
@@ -17,7 +17,7 @@ use Rattle.dns_session.specs.declared.connection.OpenConnection.{OpenConnection}
 use Rattle.dns_session.specs.declared.connection_request.ConnectionRequest.{ConnectionRequest}
 use Rattle.dns_session.specs.declared.flushing.FlushingConnection.{FlushingConnection}
 use Rattle.dns_session.specs.declared.unfinished.Unfinished.{Unfinished}
-use Rattle.dns_service.specs.declared.polled.PolledRequest.{PolledRequest}
+use Rattle.dns_framing.specs.Polls.{PolledRequest}
 
 -- nothing is kept of a request that is done, and of another one it is what a relation says
 abbrev pub KeepsBy : {Q : Type 0} → (Q → SlateRequest → Type 0) → Option Q → Option SlateRequest → Type 0

@@ -1,9 +1,9 @@
 -- What one turn of a connection's request does to what is kept of it, and to the connection's invoker.
 use Rattle.std.specs.Prelude.{◌≡◌, ℕ, suc, List, Bool, true, false, not, ◌&&◌, if◌then◌else◌, Option, Some, None}
 use Rattle.std.specs.Arc.{arc_value}
-use Rattle.dns_service.specs.Answer.{Answer}
-use Rattle.dns_service.specs.Invokers.{after_answer}
-use Rattle.dns_service.specs.declared.polled.PolledRequest.{PolledRequest}
+use Rattle.dns_framing.specs.Answer.{Answer}
+use Rattle.dns_framing.specs.Invokers.{after_answer}
+use Rattle.dns_framing.specs.Polls.{PolledRequest}
 use Rattle.dns_session.specs.Connections.{is_in_transaction}
 use Rattle.dns_session.specs.Invoker.{begun_with, connection_invoking, finds_room, offered}
 use Rattle.dns_session.specs.Turns.{ends}

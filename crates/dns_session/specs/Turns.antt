@@ -2,15 +2,15 @@
 use Rattle.std.specs.Prelude.{ℕ, ◌+◌, List, [], ◌∷◌, slice_set, if◌then◌else◌, Bool, true, false, Option, Some, None, Ok, Err}
 use Rattle.dns_base.specs.Msg.{Msg}
 use Rattle.dns_base.specs.Wire.{wire}
-use Rattle.dns_service.specs.Answer.{Answer}
-use Rattle.dns_service.specs.Req.{Req}
-use Rattle.dns_service.specs.declared.service.Polled.TheVariants.{Pending, Ready}
+use Rattle.dns_framing.specs.Answer.{Answer}
+use Rattle.dns_framing.specs.Req.{Req}
+use Rattle.dns_framing.specs.Polled.TheVariants.{Pending, Ready}
 use Rattle.dns_events.specs.declared.event.Output.{Output}
 use Rattle.dns_events.specs.declared.event.Output.TheVariants.{Datagram}
-use Rattle.dns_service.specs.Cut.{sized}
-use Rattle.dns_service.specs.ErrorReply.{error_reply}
-use Rattle.dns_service.specs.Errors.{rcode_of}
-use Rattle.dns_service.specs.Transport.{limit, limit_over}
+use Rattle.dns_framing.specs.Cut.{sized}
+use Rattle.dns_framing.specs.ErrorReply.{error_reply}
+use Rattle.dns_framing.specs.Errors.{rcode_of}
+use Rattle.dns_framing.specs.Transport.{limit, limit_over}
 use Rattle.dns_session.specs.Frames.{framed}
 use Rattle.dns_session.specs.Heard.{answer_status, answer_timeout}
 use Rattle.dns_session.specs.Serving.{Serving}

@@ -12,7 +12,7 @@ ghost use Rattle.dns_session.specs.News.{look_effect, new_configurations};
 ghost use Rattle.dns_session.specs.Spent.{is_spent};
 ghost use Rattle.dns_session.specs.Stands.{sole_number};
 ghost use Rattle.dns_session.specs.Waiting.{first_unfinished, idle_left, next_unfinished};
-ghost use Rattle.dns_service.specs.PolledRequest.{request_answer};
+ghost use Rattle.dns_framing.specs.PolledRequest.{request_answer};
 
 use crate::connection::OpenConnection;
 use crate::exchange::{BegunExchange, begin_cut, datagrams_to};
@@ -22,7 +22,9 @@ use crate::requests::cut_datagram;
 use crate::states::{lose, shut_down, step_state};
 use dns_admission::Look;
 use dns_base::SocketAddr;
-use dns_service::{Event, OutOfMemory, Output, SharedService};
+use dns_events::{Event, Output};
+use dns_framing::SharedService;
+use dns_name::OutOfMemory;
 use std::alloc::Global;
 
 /// What a client is, with what is kept of it.

@@ -13,8 +13,8 @@ ghost use Rattle.dns_session.specs.Turns.{turn};
 ghost use Rattle.dns_session.specs.Waiting.{first_unfinished, next_unfinished};
 ghost use Rattle.dns_session.specs.Rule.{rule};
 ghost use Rattle.dns_base.specs.Header.{header_of};
-ghost use Rattle.dns_service.specs.PolledRequest.{request_answer};
-ghost use Rattle.dns_service.specs.Req.{Req};
+ghost use Rattle.dns_framing.specs.PolledRequest.{request_answer};
+ghost use Rattle.dns_framing.specs.Req.{Req};
 
 mod lent;
 
@@ -25,11 +25,9 @@ use crate::outcome::Outcome;
 use crate::requests::frame_request;
 use crate::unfinished::Unfinished;
 use dns_base::{Message, SocketAddr};
-use dns_framing::{ConnectionInvoker, Framer, IdleTimer, frame_of};
-use dns_name::OptRcode;
-use dns_service::{
-    ConnectionConfig, Event, EventKind, OutOfMemory, Request, SharedService, StreamConfig, Why,
-};
+use dns_events::{ConnectionConfig, Event, EventKind, StreamConfig, Why};
+use dns_framing::{ConnectionInvoker, Framer, IdleTimer, Request, SharedService, frame_of};
+use dns_name::{OptRcode, OutOfMemory};
 use std::alloc::Global;
 
 /// What is kept of a connection while it is open: its address, how long a write may take in ms, its timer, the octets in no

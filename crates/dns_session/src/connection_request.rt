@@ -4,9 +4,9 @@ ghost use Rattle.std.specs.Prelude.{◌≡◌, ◌≢◌, ◌<◌, ℕ, ◌+◌,
 ghost use Rattle.std.specs.Arc.{arc_value};
 ghost use Rattle.std.specs.Ordering.{nat_cmp};
 ghost use Rattle.std.specs.BTreeMap.{get};
-ghost use Rattle.dns_service.specs.PolledRequest.{request_answer};
-ghost use Rattle.dns_service.specs.Answer.{Answer};
-ghost use Rattle.dns_service.specs.Invokers.{dispatched_by};
+ghost use Rattle.dns_framing.specs.PolledRequest.{request_answer};
+ghost use Rattle.dns_framing.specs.Answer.{Answer};
+ghost use Rattle.dns_framing.specs.Invokers.{dispatched_by};
 ghost use Rattle.dns_session.specs.Connections.{is_in_transaction};
 ghost use Rattle.dns_session.specs.Turns.{ends};
 ghost use Rattle.dns_session.specs.TurnedAt.{IsHeldOn, IsPolledBy, TurnsBy, TurnedAt};
@@ -15,11 +15,11 @@ ghost use Rattle.dns_session.specs.Unfinished.{ChangesAt, IsInOrder, request_at,
 use crate::kept::call;
 use crate::unfinished::Unfinished;
 use dns_base::Message;
-use dns_framing::{ConnectionInvoker, is_in_transaction};
-use dns_service::{
-    Dispatched, InvokerStatus, Octets, OutOfMemory, PolledRequest, ReplyFuture, ReplyStream,
-    Request, ServiceInvoker, SharedService,
+use dns_framing::{
+    ConnectionInvoker, Dispatched, InvokerStatus, PolledRequest, ReplyFuture, ReplyStream, Request,
+    ServiceInvoker, SharedService, is_in_transaction,
 };
+use dns_name::{Octets, OutOfMemory};
 use std::alloc::Global;
 use std::collections::BTreeMap;
 use std::sync::Arc;

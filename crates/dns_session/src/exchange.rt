@@ -1,7 +1,7 @@
 //! An exchange: one datagram, and its request until that is done.
 
 ghost use Rattle.std.specs.Prelude.{◌≡◌, ◌≤◌, ℕ, ◌∷◌, [], IfOk, MatchOption, None, length, slice_get, not, is_some};
-ghost use Rattle.dns_service.specs.PolledRequest.{request_answer};
+ghost use Rattle.dns_framing.specs.PolledRequest.{request_answer};
 ghost use Rattle.dns_session.specs.Datagrams.{cut_datagram, datagrams_to, refused_datagram};
 ghost use Rattle.dns_session.specs.Requests.{unpolled};
 ghost use Rattle.dns_session.specs.Rule.{rule};
@@ -14,11 +14,9 @@ use crate::kept::{KeptRequest, call, refused};
 use crate::polling::turn_unfinished;
 use crate::requests::{cut_given, datagram_of, datagram_request};
 use dns_base::{Message, SocketAddr};
-use dns_name::OptRcode;
-use dns_service::{
-    DgramConfig, Event, EventKind, Octets, OutOfMemory, Output, ReplyFuture, ReplyStream, Request,
-    SharedService, reply_limit,
-};
+use dns_events::{DgramConfig, Event, EventKind, Output};
+use dns_framing::{ReplyFuture, ReplyStream, Request, SharedService, reply_limit};
+use dns_name::{Octets, OptRcode, OutOfMemory};
 use std::alloc::Global;
 
 /// A vector of one output.

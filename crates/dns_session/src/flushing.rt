@@ -7,7 +7,8 @@ ghost use Rattle.dns_session.specs.Serving.{Serving};
 
 use crate::outcome::Outcome;
 use circular_buffer::HeapCircularBuffer;
-use dns_service::{Event, EventKind, Octets, Why};
+use dns_events::{Event, EventKind, Why};
+use dns_name::Octets;
 
 /// What is kept of a connection that only writes what waits: its queue, how long a write may take in ms, and why it is closed
 /// then.

@@ -3,12 +3,12 @@
 ghost use Rattle.std.specs.Prelude.{◌≡◌, ℕ, IfOk, Some, option_map};
 ghost use Rattle.std.specs.Arc.{arc_value};
 ghost use Rattle.dns_base.specs.Wire.{wire};
-ghost use Rattle.dns_service.specs.Cut.{sized};
-ghost use Rattle.dns_service.specs.ErrorReply.{error_reply};
-ghost use Rattle.dns_service.specs.Given.{message_in};
-ghost use Rattle.dns_service.specs.PolledRequest.{request_answer};
-ghost use Rattle.dns_service.specs.Transport.{hint_of, limit, limit_over};
-ghost use Rattle.dns_service.specs.declared.service.Polled.TheVariants.{Ready};
+ghost use Rattle.dns_framing.specs.Cut.{sized};
+ghost use Rattle.dns_framing.specs.ErrorReply.{error_reply};
+ghost use Rattle.dns_framing.specs.Given.{message_in};
+ghost use Rattle.dns_framing.specs.PolledRequest.{request_answer};
+ghost use Rattle.dns_framing.specs.Transport.{hint_of, limit, limit_over};
+ghost use Rattle.dns_framing.specs.Polled.TheVariants.{Ready};
 ghost use Rattle.dns_session.specs.IsPolled.{IsPolled};
 ghost use Rattle.dns_session.specs.Serving.{Serving};
 ghost use Rattle.dns_session.specs.Goings.{SpentWith, TurnsAs, unless_done};
@@ -16,11 +16,11 @@ ghost use Rattle.dns_session.specs.Turns.{ends, reply_to};
 
 use crate::requests::datagram_of;
 use dns_base::{AdditionalBuilder, Message};
-use dns_name::OptRcode;
-use dns_service::{
-    Octets, OutOfMemory, Polled, PolledRequest, ReplyFuture, ReplyStream, Request, ServiceResult,
-    SharedService, fit, limit_over, mk_error_response,
+use dns_framing::{
+    Polled, PolledRequest, ReplyFuture, ReplyStream, Request, ServiceResult, SharedService, fit,
+    limit_over, mk_error_response,
 };
+use dns_name::{Octets, OptRcode, OutOfMemory};
 use std::alloc::Global;
 use std::sync::Arc;
 

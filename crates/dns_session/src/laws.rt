@@ -2,8 +2,8 @@
 
 ghost use Rattle.dns_session.specs.Serving.{Serving};
 ghost use Rattle.std.specs.Prelude.{◌≡◌, ℕ, List, [], ◌++◌, true};
-ghost use Rattle.dns_service.specs.Answer.{Answer};
-ghost use Rattle.dns_service.specs.Req.{Req};
+ghost use Rattle.dns_framing.specs.Answer.{Answer};
+ghost use Rattle.dns_framing.specs.Req.{Req};
 ghost use Rattle.dns_session.specs.Frames.{frames, behind_frames};
 ghost use Rattle.dns_session.specs.Pieces.{piece_of, IsCut};
 ghost use Rattle.dns_events.specs.declared.event.Event.{Event};

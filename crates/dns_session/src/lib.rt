@@ -45,8 +45,7 @@ mod states;
 mod unfinished;
 
 pub use client::ClientCore;
-pub use dns_framing::{ConnectionInvoker, Framer, IdleTimer};
-pub use dns_service::PolledRequest;
+pub use dns_framing::{ConnectionInvoker, Framer, IdleTimer, PolledRequest};
 pub use exchange::{BegunExchange, begin_exchange};
 pub use kept::{KeptRequest, answered, refused};
 pub use laws::{frames_go_on, pieces_may_be_cut, spent_clients_are_sent_nothing};

@@ -1,12 +1,13 @@
 //! Turns of an exchange's request.
 
 ghost use Rattle.std.specs.Prelude.{IfOk};
-ghost use Rattle.dns_service.specs.PolledRequest.{request_answer};
+ghost use Rattle.dns_framing.specs.PolledRequest.{request_answer};
 ghost use Rattle.dns_session.specs.Serving.{Serving};
 ghost use Rattle.dns_session.specs.Goings.{TurnsAs};
 
 use crate::kept::KeptRequest;
-use dns_service::{Octets, OutOfMemory, ReplyFuture, ReplyStream};
+use dns_framing::{ReplyFuture, ReplyStream};
+use dns_name::{Octets, OutOfMemory};
 use std::alloc::Global;
 
 /// A Turn of a request, where one is kept, which is let go where it is done. The octets that its client is sent are given.

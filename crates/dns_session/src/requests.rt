@@ -6,10 +6,9 @@ ghost use Rattle.dns_session.specs.Datagrams.{cut_datagram};
 ghost use Rattle.dns_session.specs.Requests.{request_of_datagram, request_of_frame};
 
 use dns_base::{AdditionalBuilder, Message, SocketAddr};
-use dns_service::{
-    DgramConfig, NonUdpTransportContext, Octets, OutOfMemory, Request, TransportSpecificContext,
-    UdpTransportContext,
-};
+use dns_events::DgramConfig;
+use dns_framing::{NonUdpTransportContext, Request, TransportSpecificContext, UdpTransportContext};
+use dns_name::{Octets, OutOfMemory};
 use std::alloc::Global;
 
 /// How many octets of a datagram are read.

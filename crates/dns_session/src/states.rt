@@ -8,12 +8,14 @@ ghost use Rattle.dns_session.specs.Serving.{Serving, serving};
 ghost use Rattle.dns_session.specs.Slate.{Slate};
 ghost use Rattle.dns_session.specs.Goings.{StateGoes, outputs_of, state_behind, wound_up};
 ghost use Rattle.dns_session.specs.Stands.{IsClosed, state_is_open};
-ghost use Rattle.dns_service.specs.PolledRequest.{request_answer};
+ghost use Rattle.dns_framing.specs.PolledRequest.{request_answer};
 
 use crate::client::State;
 use crate::exchange::{exchange_step, one};
 use crate::outcome::Outcome;
-use dns_service::{Event, EventKind, Octets, OutOfMemory, Output, SharedService, Why};
+use dns_events::{Event, EventKind, Output, Why};
+use dns_framing::SharedService;
+use dns_name::{Octets, OutOfMemory};
 use std::alloc::Global;
 use std::mem::replace;
 

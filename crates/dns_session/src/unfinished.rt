@@ -2,7 +2,7 @@
 
 ghost use Rattle.std.specs.Prelude.{◌≡◌, ℕ, ◌+◌, ◌<◌, ◌≤◌, OnOk, MatchOption, None, [], length};
 
-use dns_service::OutOfMemory;
+use dns_name::OutOfMemory;
 use std::alloc::Global;
 use std::collections::{BTreeMap, VecDeque};
 use std::ops::Bound;

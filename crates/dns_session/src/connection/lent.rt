@@ -4,12 +4,12 @@ ghost use Rattle.std.specs.Prelude.{◌≡◌, ◌++◌, [], IfOk, MatchOption, 
 ghost use Rattle.dns_session.specs.Serving.{serving};
 ghost use Rattle.dns_session.specs.Frames.{frames};
 ghost use Rattle.dns_session.specs.Connections.{take_frames};
-ghost use Rattle.dns_service.specs.PolledRequest.{request_answer};
+ghost use Rattle.dns_framing.specs.PolledRequest.{request_answer};
 
 use crate::connection::OpenConnection;
 use crate::outcome::Outcome;
-use dns_framing::first_of;
-use dns_service::{OutOfMemory, SharedService};
+use dns_framing::{SharedService, first_of};
+use dns_name::OutOfMemory;
 use std::alloc::Global;
 
 impl<W: SharedService> OpenConnection<W> {

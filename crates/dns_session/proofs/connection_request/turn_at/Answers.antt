@@ -1,6 +1,6 @@
 use Rattle.std.proofs.Common.{◌≡◌, ◌+◌, ◌-◌, ◌<◌, arith, refl}
 use Rattle.std.proofs.lemmas.Result.{IfOk-weaker, on_ok_weaker}
-use Rattle.dns_service.specs.PolledRequest.{request_answer}
+use Rattle.dns_framing.specs.PolledRequest.{request_answer}
 use Rattle.dns_session.specs.Unfinished.{row_start}
 use Rattle.dns_session.proofs.Rows.{changes_nothing, passed_changes, past_row}
 use Rattle.dns_session.proofs.TurnsAt.{turned_before, turned_past}

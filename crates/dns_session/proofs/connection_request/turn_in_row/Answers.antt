@@ -1,6 +1,6 @@
 use Rattle.std.proofs.Common.{◌≡◌, arith, refl, false, true}
 use Rattle.std.proofs.lemmas.Grind.{common_steps}
-use Rattle.dns_service.specs.PolledRequest.{request_answer}
+use Rattle.dns_framing.specs.PolledRequest.{request_answer}
 use Rattle.dns_session.proofs.Rows.{set_changes}
 use Rattle.dns_session.proofs.TurnsAt.{gone_changes, gone_from_row, stays_in_row}
 use Rattle.dns_session.proofs.connection_request.turn_in_row.Goals as goal

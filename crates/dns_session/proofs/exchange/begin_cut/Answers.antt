@@ -1,7 +1,7 @@
 use Rattle.dns_session.specs.Serving.{serving}
 use Rattle.std.proofs.Common.{◌≤◌, [], length, refl}
 use Rattle.std.proofs.lemmas.Result.{IfOk-weaker}
-use Rattle.dns_service.specs.PolledRequest.{request_answer}
+use Rattle.dns_framing.specs.PolledRequest.{request_answer}
 use Rattle.dns_session.proofs.Begun.{begun_short}
 use Rattle.dns_session.proofs.exchange.begin_cut.Goals as goal
 

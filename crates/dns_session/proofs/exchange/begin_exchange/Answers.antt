@@ -1,6 +1,6 @@
 use Rattle.dns_session.specs.Serving.{serving}
 use Rattle.std.proofs.lemmas.Result.{IfOk-weaker}
-use Rattle.dns_service.specs.PolledRequest.{request_answer}
+use Rattle.dns_framing.specs.PolledRequest.{request_answer}
 use Rattle.dns_session.proofs.Stepped.{exchange_spent}
 use Rattle.dns_session.proofs.exchange.begin_exchange.Goals as goal
 

@@ -2,7 +2,7 @@ use Rattle.dns_session.specs.Serving.{serving}
 use Rattle.std.proofs.Common.{◌≡◌, ap, true, false}
 use Rattle.std.proofs.lemmas.Result.{IfOk-weaker}
 use Rattle.dns_base.specs.Header.{header_of}
-use Rattle.dns_service.specs.PolledRequest.{request_answer}
+use Rattle.dns_framing.specs.PolledRequest.{request_answer}
 use Rattle.dns_session.specs.Datagrams.{datagrams_to}
 use Rattle.dns_session.proofs.Begun.{begun_response, begun_query}
 use Rattle.dns_session.proofs.exchange.begin_message.Goals as goal

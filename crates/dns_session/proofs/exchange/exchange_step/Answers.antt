@@ -1,5 +1,5 @@
 use Rattle.std.proofs.lemmas.Result.{IfOk-weaker}
-use Rattle.dns_service.specs.PolledRequest.{request_answer}
+use Rattle.dns_framing.specs.PolledRequest.{request_answer}
 use Rattle.dns_session.proofs.Exchanged.{in_exchanges}
 use Rattle.dns_session.proofs.exchange.exchange_step.Goals as goal
 

@@ -1,4 +1,4 @@
-use Rattle.dns_service.specs.PolledRequest.{request_answer}
+use Rattle.dns_framing.specs.PolledRequest.{request_answer}
 use Rattle.dns_session.proofs.KeptTurns.{turned_none}
 use Rattle.dns_session.proofs.polling.turn_unfinished.Goals as goal
 

@@ -1,7 +1,7 @@
 use Rattle.std.proofs.lemmas.Result.{IfOk-weaker}
 use Rattle.dns_session.specs.Rule.{rule}
 use Rattle.dns_session.specs.Serving.{serving}
-use Rattle.dns_service.specs.PolledRequest.{request_answer}
+use Rattle.dns_framing.specs.PolledRequest.{request_answer}
 use Rattle.dns_session.proofs.Left.{led_follows, unopened}
 use Rattle.dns_session.proofs.states.step_state.Goals as goal
 

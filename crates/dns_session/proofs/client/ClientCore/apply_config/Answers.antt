@@ -1,5 +1,5 @@
 use Rattle.std.proofs.Common.{refl}
-use Rattle.dns_service.specs.PolledRequest.{request_answer}
+use Rattle.dns_framing.specs.PolledRequest.{request_answer}
 use Rattle.dns_session.specs.declared.client.State.TheVariants.{Open as Is_open}
 use Rattle.dns_session.proofs.SawLaws.{hears_open}
 use Rattle.dns_session.proofs.client.ClientCore.apply_config.Goals as goal

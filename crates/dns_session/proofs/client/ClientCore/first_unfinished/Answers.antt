@@ -1,5 +1,5 @@
 use Rattle.std.proofs.Common.{◌∙◌}
-use Rattle.dns_service.specs.PolledRequest.{request_answer}
+use Rattle.dns_framing.specs.PolledRequest.{request_answer}
 use Rattle.dns_session.proofs.Waiting.{exchange_at, of_open}
 use Rattle.dns_session.proofs.client.ClientCore.first_unfinished.Goals as goal
 

@@ -1,4 +1,4 @@
-use Rattle.dns_service.specs.PolledRequest.{request_answer}
+use Rattle.dns_framing.specs.PolledRequest.{request_answer}
 use Rattle.dns_session.proofs.Stepped.{spent}
 use Rattle.dns_session.proofs.client.ClientCore.is_spent.Goals as goal
 

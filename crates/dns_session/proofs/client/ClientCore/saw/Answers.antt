@@ -1,4 +1,4 @@
-use Rattle.dns_service.specs.PolledRequest.{request_answer}
+use Rattle.dns_framing.specs.PolledRequest.{request_answer}
 use Rattle.dns_session.proofs.SawLaws.{saw_quiet, saw_end}
 use Rattle.dns_session.proofs.client.ClientCore.saw.Goals as goal
 

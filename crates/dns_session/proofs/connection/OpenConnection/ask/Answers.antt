@@ -1,6 +1,6 @@
 use Rattle.std.proofs.lemmas.Result.{on_ok_weaker}
 use Rattle.dns_session.specs.Serving.{serving}
-use Rattle.dns_service.specs.PolledRequest.{request_answer}
+use Rattle.dns_framing.specs.PolledRequest.{request_answer}
 use Rattle.dns_session.proofs.Begun.{called_going}
 use Rattle.dns_session.proofs.connection.OpenConnection.ask.Goals as goal
 

@@ -1,4 +1,4 @@
-use Rattle.dns_service.specs.PolledRequest.{request_answer}
+use Rattle.dns_framing.specs.PolledRequest.{request_answer}
 use Rattle.dns_session.specs.Unfinished.{request_at}
 use Rattle.dns_session.proofs.Waiting.{agrees, first_is}
 use Rattle.dns_session.proofs.connection.OpenConnection.first_unfinished.Goals as goal

@@ -1,4 +1,4 @@
-use Rattle.dns_service.specs.PolledRequest.{request_answer}
+use Rattle.dns_framing.specs.PolledRequest.{request_answer}
 use Rattle.dns_session.specs.Unfinished.{request_at}
 use Rattle.dns_session.proofs.Waiting.{agrees, next_is}
 use Rattle.dns_session.proofs.connection.OpenConnection.next_unfinished.Goals as goal

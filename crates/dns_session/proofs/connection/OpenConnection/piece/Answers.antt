@@ -1,7 +1,7 @@
 use Rattle.dns_session.specs.Serving.{serving}
 use Rattle.std.proofs.Common.{sym, ◌∙◌}
 use Rattle.std.proofs.lemmas.Result.{IfOk-weaker}
-use Rattle.dns_service.specs.PolledRequest.{request_answer}
+use Rattle.dns_framing.specs.PolledRequest.{request_answer}
 use Rattle.dns_session.proofs.Lent.{fed_lent, nothing_kept}
 use Rattle.dns_session.proofs.Taking.{fed}
 use Rattle.dns_session.proofs.connection.OpenConnection.piece.Goals as goal

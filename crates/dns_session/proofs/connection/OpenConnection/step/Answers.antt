@@ -1,6 +1,6 @@
 use Rattle.std.proofs.lemmas.Result.{IfOk-weaker}
 use Rattle.dns_session.specs.Serving.{serving}
-use Rattle.dns_service.specs.PolledRequest.{request_answer}
+use Rattle.dns_framing.specs.PolledRequest.{request_answer}
 use Rattle.dns_session.proofs.Stepped.{in_leads, without_memory}
 use Rattle.dns_session.proofs.connection.OpenConnection.step.Goals as goal
 

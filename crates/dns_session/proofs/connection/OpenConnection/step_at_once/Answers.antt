@@ -1,4 +1,4 @@
-use Rattle.dns_service.specs.PolledRequest.{request_answer}
+use Rattle.dns_framing.specs.PolledRequest.{request_answer}
 use Rattle.dns_session.specs.declared.outcome.Outcome.TheVariants.{Nothing}
 use Rattle.dns_session.proofs.Stepped.{in_leads, reconfigures, unchanged}
 use Rattle.dns_session.proofs.connection.OpenConnection.step_at_once.Goals as goal

@@ -1,5 +1,5 @@
 use Rattle.dns_session.specs.Slate.{Slate, conf_rule}
-use Rattle.dns_service.specs.PolledRequest.{request_answer}
+use Rattle.dns_framing.specs.PolledRequest.{request_answer}
 use Rattle.dns_events.specs.declared.event.EventKind.TheVariants.{Shutdown as By_shutdown}
 use Rattle.dns_events.specs.declared.event.Why.TheVariants.{Ended, Fault}
 use Rattle.dns_session.specs.declared.outcome.Outcome.TheVariants.{Ends}

@@ -1,5 +1,5 @@
 use Rattle.dns_session.specs.Serving.{serving}
-use Rattle.dns_service.specs.PolledRequest.{request_answer}
+use Rattle.dns_framing.specs.PolledRequest.{request_answer}
 use Rattle.dns_session.proofs.Taking.{one_more, no_more}
 use Rattle.dns_session.proofs.connection.OpenConnection.take_all.Goals as goal
 

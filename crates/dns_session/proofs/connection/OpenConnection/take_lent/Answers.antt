@@ -1,6 +1,6 @@
 use Rattle.dns_session.specs.Serving.{serving}
 use Rattle.std.proofs.Common.{arith, refl}
-use Rattle.dns_service.specs.PolledRequest.{request_answer}
+use Rattle.dns_framing.specs.PolledRequest.{request_answer}
 use Rattle.dns_session.proofs.Taking.{no_more}
 use Rattle.dns_session.proofs.Lent.{lent_more, rest_shorter}
 use Rattle.dns_session.proofs.connection.OpenConnection.take_lent.Goals as goal

@@ -1,6 +1,6 @@
 use Rattle.dns_session.specs.Serving.{serving}
 use Rattle.std.proofs.Common.{◌≡◌, [], length}
-use Rattle.dns_service.specs.PolledRequest.{request_answer}
+use Rattle.dns_framing.specs.PolledRequest.{request_answer}
 use Rattle.dns_session.proofs.Taking.{TakesOn}
 use Rattle.dns_session.proofs.connection.OpenConnection.take_lent.Given as goal
 

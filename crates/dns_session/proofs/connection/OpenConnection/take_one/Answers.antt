@@ -2,7 +2,7 @@ use Rattle.dns_session.specs.Serving.{serving}
 use Rattle.std.proofs.Common.{◌≡◌, ◌∙◌, ap, Some}
 use Rattle.std.proofs.lemmas.Result.{IfOk-weaker}
 use Rattle.dns_session.specs.Frames.{first_frame}
-use Rattle.dns_service.specs.PolledRequest.{request_answer}
+use Rattle.dns_framing.specs.PolledRequest.{request_answer}
 use Rattle.dns_framing.proofs.FramesLemmas.{first-framed}
 use Rattle.dns_session.proofs.Taking.{none_left, taken_or_short}
 use Rattle.dns_session.proofs.connection.OpenConnection.take_one.Goals as goal

@@ -1,5 +1,5 @@
 use Rattle.std.proofs.Common.{sym, ◌∙◌}
-use Rattle.dns_service.specs.PolledRequest.{request_answer}
+use Rattle.dns_framing.specs.PolledRequest.{request_answer}
 use Rattle.dns_session.proofs.Ticked.{ticks_out, ticks_busy, ticks_early}
 use Rattle.dns_session.proofs.connection.OpenConnection.tick.Goals as goal
 use Rattle.dns_session.proofs.connection.OpenConnection.tick.Goals.{else-self-eq0-via-then-self-eq0+else-idle_timeout_expired, else-self-eq0-via-else-self-eq0}

@@ -1,5 +1,5 @@
 use Rattle.std.proofs.Common.{refl}
-use Rattle.dns_service.specs.PolledRequest.{request_answer}
+use Rattle.dns_framing.specs.PolledRequest.{request_answer}
 use Rattle.dns_session.proofs.TurnedOpen.{turned}
 use Rattle.dns_session.proofs.connection.OpenConnection.turn.Goals as goal
 

@@ -1,4 +1,4 @@
-use Rattle.dns_service.specs.PolledRequest.{request_answer}
+use Rattle.dns_framing.specs.PolledRequest.{request_answer}
 use Rattle.dns_session.proofs.Stepped.{wound_at_once, wound_later}
 use Rattle.dns_session.proofs.connection.OpenConnection.wind_up.Goals as goal
 use Rattle.std.proofs.Common.{◌∙◌, sym}

@@ -1,5 +1,5 @@
-use Rattle.dns_service.specs.PolledRequest.{request_answer}
-use Rattle.dns_service.specs.Given.{message_in}
+use Rattle.dns_framing.specs.PolledRequest.{request_answer}
+use Rattle.dns_framing.specs.Given.{message_in}
 use Rattle.dns_session.proofs.KeptTurns.{ends_done, turned_kept}
 use Rattle.dns_session.proofs.kept.KeptRequest.turn.Goals as goal
 
