@@ -1,6 +1,6 @@
 //! What is asked of a running server.
 
-use crate::load::load_config;
+use crate::configuration::load_config;
 use anyhow::{Context, bail};
 use std::io::{self, Write};
 use std::net::{Net, Shutdown};

@@ -1,6 +1,6 @@
 //! Sockets that are listened at.
 
-use crate::load::Shown;
+use crate::configuration::Shown;
 use anyhow::Context;
 use dns_name::SocketAddr;
 use dns_outside::{MioAccept, MioSock};

@@ -1,29 +1,14 @@
-//! Configurations and zones that are read of files.
+//! Zones that are read of files.
 
+use crate::configuration::{Shown, load_config};
 use crate::secondary::Secondary;
 use anyhow::{Context, bail};
-use dns_config::{Config, ZoneEntry, read_config};
+use dns_config::{Config, ZoneEntry};
 use dns_generation::{Generation, ZoneSummary, networks};
-use dns_name::{IpAddr, SocketAddr};
 use log::warn;
 use std::alloc::{AllocError, Global};
 use std::fmt::Write;
-use std::{fmt, fs};
-
-/// An address and a port as text, the address of IPv6 in brackets.
-#[derive(Clone, Copy)]
-pub(crate) struct Shown(pub(crate) SocketAddr);
-
-impl fmt::Display for Shown {
-    fn fmt<W: fmt::Write>(&self, f: &mut fmt::Formatter<W>) -> fmt::Result {
-        let ip = self.0.ip;
-        let port = self.0.port;
-        match ip {
-            IpAddr::V4(_) => write!(f, "{ip}:{port}"),
-            IpAddr::V6(_) => write!(f, "[{ip}]:{port}"),
-        }
-    }
-}
+use std::fs;
 
 /// The serial of a zone.
 pub(crate) fn serial_of(summary: &ZoneSummary) -> Option<u32> {
@@ -31,35 +16,6 @@ pub(crate) fn serial_of(summary: &ZoneSummary) -> Option<u32> {
         Some(timers) => Some(timers.serial.into_int()),
         None => None,
     }
-}
-
-/// The lines of a text in one.
-fn in_one_line(alloc: Global, text: &str) -> Result<String, AllocError> {
-    let mut line = String::new(alloc);
-    for part in text.lines() {
-        if !line.is_empty() {
-            line.push_str(": ")?;
-        }
-        line.push_str(part)?;
-    }
-    Ok(line)
-}
-
-/// The configuration that a text is.
-fn configuration(alloc: Global, text: &str) -> anyhow::Result<Config> {
-    match read_config(alloc, text) {
-        Ok(config) => Ok(config),
-        Err(error) => {
-            let said = format!(in alloc; "{error}")?;
-            bail!("{}", in_one_line(alloc, said.as_str())?)
-        }
-    }
-}
-
-/// The configuration that a file has.
-pub(crate) fn load_config(rt: &HostRuntime, path: &str) -> anyhow::Result<Config> {
-    let text = fs::read_to_string(rt, path).context(format_args!("{path}"))?;
-    configuration(rt.alloc(), text.as_str()).context(format_args!("{path}"))
 }
 
 /// Reads and judges the zone of one file, and puts it behind the others.

@@ -30,6 +30,7 @@ ghost use Rattle.clap.specs.Values.{kind_of};
 ghost use Rattle.clap.specs.declared.error.kind.ErrorKind.TheVariants.{DisplayHelp, DisplayVersion};
 
 mod check;
+mod configuration;
 mod control;
 mod copies;
 mod counts;

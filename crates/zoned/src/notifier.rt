@@ -1,7 +1,8 @@
 //! NOTIFY to those who are to know of a new serial (RFC 1996).
 
 use crate::check::to_std;
-use crate::load::{Shown, serial_of};
+use crate::configuration::Shown;
+use crate::load::serial_of;
 use crate::served::Served;
 use anyhow::bail;
 use dns_config::ZoneEntry;

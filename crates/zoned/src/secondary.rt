@@ -1,7 +1,7 @@
 //! Zones that the server is secondary of.
 
 use crate::check::{Check, Checked, run};
-use crate::load::Shown;
+use crate::configuration::Shown;
 use dns_config::ZoneEntry;
 use dns_generation::ZoneSummary;
 use dns_name::{IpAddr, Name, OutOfMemory, SocketAddr};

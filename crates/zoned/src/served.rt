@@ -1,6 +1,7 @@
 //! What is served at a time, with its number.
 
-use crate::load::{load_config, load_generation};
+use crate::configuration::load_config;
+use crate::load::load_generation;
 use crate::secondary::Secondary;
 use dns_authority::Authority;
 use dns_config::Config;

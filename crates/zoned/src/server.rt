@@ -1,11 +1,12 @@
 //! A server: generation after generation at the listeners.
 
+use crate::configuration::Shown;
 use crate::control::{Caller, Control, Order};
 use crate::copies::Copies;
 use crate::counts::counted;
 use crate::layers::layered;
 use crate::listener::Listener;
-use crate::load::{Shown, report};
+use crate::load::report;
 use crate::notifier::Notifier;
 use crate::running::Running;
 use crate::served::Served;
