@@ -10,7 +10,7 @@ use dns_secondary::{SoaTimers, ZoneCopy, soa_query, transfer_query};
 use dns_zone_file::write_zone;
 use std::alloc::Global;
 use std::io::{Read, Write};
-use std::net::{self, Net, OpenStream, TcpStream};
+use std::net::{self, Net, TcpStream};
 use std::sync::Arc;
 use std::sync::atomic::{AtomicBool, Ordering};
 use std::time::Duration;
@@ -29,11 +29,11 @@ const SOA_ID: u16 = 1;
 
 const TRANSFER_ID: u16 = 2;
 
-/// What is checked.
+/// What is checked, over a connection to the primary.
 #[derive(Drop)]
 pub(crate) struct Check {
     pub(crate) apex: Name,
-    pub(crate) primary: SocketAddr,
+    pub(crate) stream: TcpStream,
     pub(crate) copy: ZoneCopy,
     /// Set where the check is to be given up.
     pub(crate) stop: Arc<AtomicBool>,
@@ -57,12 +57,13 @@ pub(crate) fn to_std(address: SocketAddr) -> net::SocketAddr {
     net::SocketAddr::new(ip, address.port)
 }
 
-/// A connection to a primary.
-fn connect<R: Net>(net: &R, primary: SocketAddr) -> anyhow::Result<R::Stream> {
-    let step = Duration::from_secs(STEP_SECONDS);
-    let stream = TcpStream::connect_timeout(net, &to_std(primary), step)?;
-    stream.set_read_timeout(Some(step))?;
-    stream.set_write_timeout(Some(step))?;
+/// Begins a connection to a primary. The first write waits for it.
+pub(crate) fn connect<N: Net>(net: &N, primary: SocketAddr) -> anyhow::Result<TcpStream> {
+    let step = Some(Duration::from_secs(STEP_SECONDS));
+    let stream = TcpStream::from(mio::net::TcpStream::connect(net, to_std(primary))?);
+    stream.set_nonblocking(false)?;
+    stream.set_read_timeout(step)?;
+    stream.set_write_timeout(step)?;
     Ok(stream)
 }
 
@@ -141,20 +142,26 @@ fn first_timers(records: &[Record]) -> Option<SoaTimers> {
     }
 }
 
-/// The records of the zone that the primary has.
+/// Asks for the zone that the primary has.
+fn send_transfer<S: Write>(alloc: Global, stream: &mut S, apex: &Name) -> anyhow::Result<()> {
+    match transfer_query(alloc, TRANSFER_ID, apex) {
+        Ok(query) => send(stream, query),
+        Err(_) => bail!("out of memory"),
+    }
+}
+
+/// The records of the zone that the primary has, unless the check is to be given up.
 fn ask_zone<S: Read + Write>(
     alloc: Global,
     stream: &mut S,
-    check: &Check,
+    apex: &Name,
+    stop: &AtomicBool,
 ) -> anyhow::Result<Vec<Record>> {
-    match transfer_query(alloc, TRANSFER_ID, &check.apex) {
-        Ok(query) => send(stream, query)?,
-        Err(_) => bail!("out of memory"),
-    }
-    let apex = check.apex.try_clone(alloc)?;
+    send_transfer(alloc, stream, apex)?;
+    let apex = apex.try_clone(alloc)?;
     let mut incoming = IncomingTransfer::new(alloc, TRANSFER_ID, apex, MOST_RECORDS);
     for _ in 0..MOST_MESSAGES {
-        if check.stop.load(Ordering::SeqCst) {
+        if stop.load(Ordering::SeqCst) {
             bail!("the server stops");
         }
         let message = receive(alloc, stream)?;
@@ -181,19 +188,24 @@ fn judged(alloc: Global, apex: &Name, records: &[Record]) -> anyhow::Result<Chec
 }
 
 /// Asks the primary of a zone.
-fn outcome<R: Net>(net: &R, alloc: Global, check: &Check) -> anyhow::Result<Checked> {
-    let mut stream = connect(net, check.primary)?;
-    let timers = ask_soa(alloc, &mut stream, &check.apex)?;
-    if !check.copy.is_newer(timers.serial) {
+fn outcome(alloc: Global, check: Check) -> anyhow::Result<Checked> {
+    let Check {
+        apex,
+        mut stream,
+        copy,
+        stop,
+    } = check;
+    let timers = ask_soa(alloc, &mut stream, &apex)?;
+    if !copy.is_newer(timers.serial) {
         return Ok(Checked::Current(timers));
     }
-    let records = ask_zone(alloc, &mut stream, check)?;
-    judged(alloc, &check.apex, records.as_slice())
+    let records = ask_zone(alloc, &mut stream, &apex, &stop)?;
+    judged(alloc, &apex, records.as_slice())
 }
 
 /// Checks a copy: what came of it, or why nothing did.
-pub(crate) fn run<R: Net>(net: &R, alloc: Global, check: &Check) -> Result<Checked, String> {
-    match outcome(net, alloc, check) {
+pub(crate) fn run(alloc: Global, check: Check) -> Result<Checked, String> {
+    match outcome(alloc, check) {
         Ok(checked) => Ok(checked),
         Err(fault) => Err(told(alloc, &fault)),
     }

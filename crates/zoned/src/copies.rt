@@ -87,7 +87,7 @@ fn target_of(alloc: Global, secondaries: &[Secondary]) -> Result<Arc<NotifyTarge
 }
 
 /// Looks at each copy, those that were woken first of all. Whether another one, or none, is served from now on.
-fn look_at_all<R: Net + Threads + Copy + Send + 'static>(
+fn look_at_all<R: Net + Threads>(
     machine: &R,
     rt: &HostRuntime,
     secondaries: &mut [Secondary],
@@ -173,7 +173,7 @@ impl Copies {
     }
 
     /// Looks at each copy. Whether another one, or none, is served from now on.
-    pub(crate) fn look<R: Net + Threads + Copy + Send + 'static>(
+    pub(crate) fn look<R: Net + Threads>(
         &mut self,
         machine: &R,
         rt: &HostRuntime,

@@ -1,28 +1,21 @@
-//! What answers at the listeners.
+//! The service of a listener, layer by layer: each is put round by a function of its own, which is generic in what is inside.
 
-ghost use Rattle.std.specs.Prelude.{◌≡◌, IfOk, unwrap_or};
+ghost use Rattle.std.specs.Prelude.{◌≡◌, unwrap_or};
 ghost use Rattle.std.specs.Arc.{arc_value};
-ghost use Rattle.dns_middleware.specs.Verdicts.{verdict_on};
-ghost use Rattle.dns_middleware.specs.Wrapped.{replies};
-ghost use Rattle.dns_own_opt.specs.OwnOpts.{with_own_opt};
-ghost use Rattle.dns_udp_size.specs.UdpSizes.{classic};
 
-use dns_authority::Authority;
-use dns_middleware::{Notifiable, Settings, Wrapped, wrap};
-use dns_name::OutOfMemory;
+use crate::listener::Listener;
+use crate::place::{Place, serve_at};
+use dns_host::HostEnd;
+use dns_middleware::{Notifiable, Settings, wrap};
 use dns_own_opt::OwnOptSvc;
 use dns_reply_counts::{CountingSvc, ReplyCounts};
-use dns_secondary_service::{NotifyTarget, Withholding};
-use dns_service::Service;
+use dns_secondary_service::Withholding;
+use dns_service::{Service, WithoutMeta};
 use dns_udp_size::ClassicUdpSize;
 use std::alloc::Global;
-use std::sync::Arc;
-
-/// A service with the server's own OPT record, 512 octets without EDNS, and its replies counted.
-type Rounded<S> = CountingSvc<ClassicUdpSize<OwnOptSvc<S>>>;
-
-/// What answers at a listener: the zones in the layers of the settings, with the target of NOTIFY.
-pub(crate) type Layered = Rounded<Wrapped<Arc<Withholding<Authority>>, Arc<NotifyTarget>>>;
+use std::rt::Clock;
+use std::sync::{Arc, Wait};
+use std::thread::Threads;
 
 /// How many octets the server takes over UDP where the settings say nothing.
 const UDP_SIZE: u16 = 1_232;
@@ -37,44 +30,98 @@ fn udp_size(settings: &Settings) -> u16
     }
 }
 
-/// Puts the layers of a server round those of the settings.
-fn rounded<S: Service<()>>(next: S, size: u16, counts: Arc<ReplyCounts>) -> Rounded<S>
-    ensures answers { ⟦<Rounded<S> as Service<()>>⟧.answer result ≡ classic (with_own_opt size (S.answer next)) }
-    ensures can_call { S.can_call next → ⟦<Rounded<S> as Service<()>>⟧.can_call result }
+/// Serves with the replies counted.
+fn serve_counted<
+    R: Clock + Threads + Wait + Copy + Send + Sync + 'static,
+    S: Service<()> + Send + Sync + 'static,
+>(rt: R, alloc: Global, place: Place, counts: Arc<ReplyCounts>, service: S) -> (Listener, HostEnd)
+where
+    S::Future: Send,
+    S::Stream: Send,
+    requires { S.can_call service }
 {
-    CountingSvc::new(ClassicUdpSize::new(OwnOptSvc::new(next, size)), counts)
+    let service = CountingSvc::new(service, counts);
+    serve_at(rt, alloc, place, WithoutMeta { service })
 }
 
-/// Zones in all layers, and the target of NOTIFY.
-fn in_layers<S: Service<()>, N: Notifiable>(
+/// Serves with at most 512 octets over UDP without EDNS (RFC 1035, section 4.2.1).
+fn serve_sized<
+    R: Clock + Threads + Wait + Copy + Send + Sync + 'static,
+    S: Service<()> + Send + Sync + 'static,
+>(rt: R, alloc: Global, place: Place, counts: Arc<ReplyCounts>, service: S) -> (Listener, HostEnd)
+where
+    S::Future: Send,
+    S::Stream: Send,
+    requires { S.can_call service }
+{
+    serve_counted(rt, alloc, place, counts, ClassicUdpSize::new(service))
+}
+
+/// Serves with OPT records that state the server's own size and the request's DO (RFC 6891, section 6.2.3; RFC 3225, section 3).
+fn serve_stating<
+    R: Clock + Threads + Wait + Copy + Send + Sync + 'static,
+    S: Service<()> + Send + Sync + 'static,
+>(
+    rt: R,
     alloc: Global,
+    place: Place,
+    counts: Arc<ReplyCounts>,
+    service: S,
+    size: u16,
+) -> (Listener, HostEnd)
+where
+    S::Future: Send,
+    S::Stream: Send,
+    requires { S.can_call service }
+{
+    serve_sized(rt, alloc, place, counts, OwnOptSvc::new(service, size))
+}
+
+/// Serves by a service in the layers of the settings, and the target of NOTIFY.
+fn serve_wrapped<
+    R: Clock + Threads + Wait + Copy + Send + Sync + 'static,
+    S: Service<()> + Send + Sync + 'static,
+    N: Notifiable + Send + Sync + 'static,
+>(
+    rt: R,
+    alloc: Global,
+    place: Place,
+    counts: Arc<ReplyCounts>,
     settings: &Settings,
     service: S,
     target: N,
-    counts: &Arc<ReplyCounts>,
-) -> Result<Rounded<Wrapped<S, N>>, OutOfMemory>
-    ensures answers { let size = unwrap_or settings.now.dgram.max_response_size 1232 in
-        IfOk result (λ s. ⟦<Rounded<Wrapped<S, N>> as Service<()>>⟧.answer s
-        ≡ classic (with_own_opt size (replies settings.now (S.answer service) (verdict_on (N.verdict target))))) }
-    ensures can_call { IfOk result (λ s. S.can_call service → ⟦<Rounded<Wrapped<S, N>> as Service<()>>⟧.can_call s) }
+) -> (Listener, HostEnd)
+where
+    S::Future: Send,
+    S::Stream: Send,
+    N::Future: Send,
+    requires { S.can_call service }
 {
-    let counts = Arc::try_clone(counts)?;
-    let wrapped = wrap(alloc, settings, service, target)?;
-    Ok(rounded(wrapped, udp_size(settings), counts))
+    match wrap(alloc, settings, service, target) {
+        Ok(wrapped) => serve_stating(rt, alloc, place, counts, wrapped, udp_size(settings)),
+        Err(_) => place.give_up(rt),
+    }
 }
 
-/// What answers at the listeners by these settings: the zones, and the target of NOTIFY.
-pub(crate) fn layered(
+/// Serves by a service behind zones that have no data, in all layers.
+pub(crate) fn serve_zones<
+    R: Clock + Threads + Wait + Copy + Send + Sync + 'static,
+    S: Service<()> + Send + Sync + 'static,
+    N: Notifiable + Send + Sync + 'static,
+>(
+    rt: R,
     alloc: Global,
+    place: Place,
+    counts: Arc<ReplyCounts>,
     settings: &Settings,
-    service: &Arc<Withholding<Authority>>,
-    target: &Arc<NotifyTarget>,
-    counts: &Arc<ReplyCounts>,
-) -> Result<Arc<Layered>, OutOfMemory>
-    ensures { IfOk result (λ s. ⟦<Layered as Service<()>>⟧.can_call (arc_value s)) }
+    service: Arc<Withholding<S>>,
+    target: N,
+) -> (Listener, HostEnd)
+where
+    S::Future: Send,
+    S::Stream: Send,
+    N::Future: Send,
+    requires { ⟦<Withholding<S> as Service<()>>⟧.can_call (arc_value service) }
 {
-    let service = Arc::try_clone(service)?;
-    let target = Arc::try_clone(target)?;
-    let layered = in_layers(alloc, settings, service, target, counts)?;
-    Ok(Arc::new(alloc, layered)?)
+    serve_wrapped(rt, alloc, place, counts, settings, service, target)
 }

@@ -4,8 +4,8 @@
 //!   the control socket.
 //! - `server` goes from generation to generation: it looks every 50 ms whether something is asked, and shuts the listeners
 //!   down where something else is to be served. `served` is what is served at a time.
-//! - `layers` is the service: the zones, in the layers of the settings, with the server's own OPT record, 512 octets without
-//!   EDNS, counted. `listener` and `running` serve it at an address, in threads.
+//! - `layers` puts the service together: the zones, in the layers of the settings, with the server's own OPT record, 512 octets
+//!   without EDNS, counted. `listener`, `place` and `running` serve it at an address, in threads.
 //! - `copies`, `secondary` and `check` keep the copies of zones that have a primary, `notifier` tells others of new serials.
 //!
 //! ```text
@@ -16,7 +16,6 @@
 //!
 //! - Each function is safe, and returns but for those that wait.
 //! - The status of the program: 0 where all was done, 1 with a line that says the fault, 2 for faulty words.
-//! - What answers at a listener is the service of its definition: `answering` of `layers`.
 //!
 //! # What a body could still get away with
 //!
@@ -39,6 +38,7 @@ mod layers;
 mod listener;
 mod load;
 mod notifier;
+mod place;
 mod running;
 mod secondary;
 mod served;

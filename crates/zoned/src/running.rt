@@ -3,22 +3,52 @@
 ghost use Rattle.std.specs.Prelude.{◌≡◌, IfOk};
 ghost use Rattle.std.specs.Arc.{arc_value};
 
-use crate::layers::Layered;
+use crate::layers::serve_zones;
 use crate::listener::Listener;
+use crate::place::Place;
 use anyhow::bail;
+use dns_authority::Authority;
 use dns_book::{Book, BookSeat, BookState};
-use dns_host::{ConnectionWork, Host, HostEnd, Silent, host_service};
+use dns_host::HostEnd;
 use dns_middleware::Settings;
 use dns_name::OutOfMemory;
-use dns_outside::{HostClock, MioLink, ThreadSpawner};
-use dns_service::{SharedService, WithoutMeta};
+use dns_reply_counts::ReplyCounts;
+use dns_secondary_service::{NotifyTarget, Withholding};
 use std::alloc::Global;
 use std::rt::Clock;
 use std::sync::{Arc, Wait};
 use std::thread::{self, JoinHandle, Threads};
 
-/// What serves the connections of a listener, each in a thread of its own.
-type Connections<R, W> = ThreadSpawner<ConnectionWork<MioLink, HostClock<R>, Silent, W>>;
+/// What is served: the zones, by settings, with the target of NOTIFY and what counts the replies.
+#[derive(Drop)]
+pub(crate) struct Offer {
+    pub(crate) settings: Settings,
+    pub(crate) service: Arc<Withholding<Authority>>,
+    pub(crate) target: Arc<NotifyTarget>,
+    pub(crate) counts: Arc<ReplyCounts>,
+}
+
+impl Offer {
+    /// An offer of these, which are shared.
+    pub(crate) fn new(
+        alloc: Global,
+        settings: &Settings,
+        service: &Arc<Withholding<Authority>>,
+        target: &Arc<NotifyTarget>,
+        counts: &Arc<ReplyCounts>,
+    ) -> Result<Offer, OutOfMemory> {
+        let service = Arc::try_clone(service)?;
+        let target = Arc::try_clone(target)?;
+        let counts = Arc::try_clone(counts)?;
+        let settings = settings.try_clone(alloc)?;
+        Ok(Offer {
+            settings,
+            service,
+            target,
+            counts,
+        })
+    }
+}
 
 /// A book of the configurations of the settings, and its seat.
 fn open_book(alloc: Global, settings: &Settings) -> Result<(Arc<Book>, BookSeat), OutOfMemory>
@@ -32,55 +62,11 @@ fn open_book(alloc: Global, settings: &Settings) -> Result<(Arc<Book>, BookSeat)
     }
 }
 
-/// Serves at a listener until the book is shut down, and gives the listener back, whose sockets stay open.
-fn serve_at<
-    R: Clock + Threads + Wait + Copy + Send + Sync + 'static,
-    W: SharedService + Send + Sync + 'static,
->(
-    rt: &R,
-    alloc: Global,
-    listener: Listener,
-    service: W,
-    book: &Arc<Book>,
-    seat: BookSeat,
-) -> (Listener, HostEnd)
-where
-    W::Future: Send,
-    W::Stream: Send,
-    requires book { seat.book ≡ arc_value book.now }
-    requires can_call { W.can_call service }
-{
-    let Listener {
-        address,
-        accept,
-        sock,
-    } = listener;
-    let spawner: Connections<R, W> = ThreadSpawner::new(alloc);
-    let mut host = Host {
-        accept,
-        sock,
-        clock: HostClock::new(*rt),
-        spawner,
-        journal: Silent::new(),
-    };
-    let (_seat, end) = host_service(rt, alloc, service, book, seat, &mut host, 0);
-    let Host { accept, sock, .. } = host;
-    let listener = Listener {
-        address,
-        accept,
-        sock,
-    };
-    (listener, end)
-}
-
-/// A listener that is to serve, what answers, and a seat at the book of its slots.
+/// A listener that is to serve, and what is served.
 #[derive(Drop)]
 struct Post {
-    listener: Listener,
-    service: Arc<Layered>,
-    book: Arc<Book>,
-    seat: BookSeat,
-    ghost at_book: { seat.book ≡ arc_value book },
+    place: Place,
+    offer: Offer,
 }
 
 impl Post {
@@ -90,13 +76,14 @@ impl Post {
         rt: R,
         alloc: Global,
     ) -> (Listener, HostEnd) {
-        let Post {
-            listener,
+        let Post { place, offer } = self;
+        let Offer {
+            settings,
             service,
-            book,
-            seat,
-        } = self;
-        serve_at(&rt, alloc, listener, WithoutMeta { service }, &book, seat)
+            target,
+            counts,
+        } = offer;
+        serve_zones(rt, alloc, place, counts, &settings, service, target)
     }
 }
 
@@ -109,27 +96,24 @@ pub(crate) struct Running {
     ghost at_book: { seat.book ≡ arc_value book },
 }
 
-/// A post at a listener, and the seat from which it is shut down.
-fn post_at<R: Wait>(
+/// A place at a listener, and the seat from which it is shut down.
+fn place_at<R: Wait>(
     rt: &R,
     listener: Listener,
-    service: &Arc<Layered>,
     book: &Arc<Book>,
     seat: BookSeat,
-) -> Result<(Post, BookSeat), OutOfMemory>
+) -> Result<(Place, BookSeat), OutOfMemory>
     requires { seat.book ≡ arc_value book.now }
     ensures { IfOk result (λ r. r.1.book ≡ arc_value book.now) }
 {
-    let service = Arc::try_clone(service)?;
     let theirs = Arc::try_clone(book)?;
     let (mine, seat) = book.split(rt, seat);
-    let post = Post {
+    let place = Place {
         listener,
-        service,
         book: theirs,
         seat,
     };
-    Ok((post, mine))
+    Ok((place, mine))
 }
 
 impl Running {
@@ -138,11 +122,11 @@ impl Running {
         machine: R,
         alloc: Global,
         listener: Listener,
-        settings: &Settings,
-        service: &Arc<Layered>,
+        offer: Offer,
     ) -> anyhow::Result<Running> {
-        let (book, seat) = open_book(alloc, settings)?;
-        let (post, seat) = post_at(&machine, listener, service, &book, seat)?;
+        let (book, seat) = open_book(alloc, &offer.settings)?;
+        let (place, seat) = place_at(&machine, listener, &book, seat)?;
+        let post = Post { place, offer };
         match thread::spawn(&machine, move || post.serve(machine, alloc)) {
             Ok(thread) => Ok(Running { thread, book, seat }),
             Err(_) => bail!("a thread can't be started"),

@@ -1,6 +1,6 @@
 //! Zones that the server is secondary of.
 
-use crate::check::{Check, Checked, run};
+use crate::check::{Check, Checked, connect, run};
 use crate::configuration::Shown;
 use dns_config::ZoneEntry;
 use dns_generation::ZoneSummary;
@@ -24,16 +24,11 @@ pub(crate) struct Checking {
 
 impl Checking {
     /// Starts a check.
-    fn start<R: Net + Threads + Copy + Send + 'static>(
-        machine: &R,
-        alloc: Global,
-        check: Check,
-    ) -> anyhow::Result<Checking> {
-        let machine = *machine;
+    fn start<R: Threads>(machine: &R, alloc: Global, check: Check) -> anyhow::Result<Checking> {
         let ended = Arc::new(alloc, AtomicBool::new(false))?;
         let theirs = Arc::try_clone(&ended)?;
-        let thread = thread::spawn(&machine, move || {
-            let checked = run(&machine, alloc, &check);
+        let thread = thread::spawn(machine, move || {
+            let checked = run(alloc, check);
             theirs.store(true, Ordering::SeqCst);
             checked
         })?;
@@ -216,7 +211,7 @@ impl Secondary {
     }
 
     /// Begins a check.
-    fn begin<R: Net + Threads + Copy + Send + 'static>(
+    fn begin<R: Net + Threads>(
         &mut self,
         machine: &R,
         alloc: Global,
@@ -226,7 +221,7 @@ impl Secondary {
         self.copy.begin(now);
         let check = Check {
             apex: self.apex.try_clone(alloc)?,
-            primary: self.primary,
+            stream: connect(machine, self.primary)?,
             copy: self.copy,
             stop: Arc::try_clone(stop)?,
         };
@@ -244,7 +239,7 @@ impl Secondary {
     }
 
     /// Begins a check that is due, unless one is going on. That it can't be begun is logged.
-    fn begin_due<R: Net + Threads + Copy + Send + 'static>(
+    fn begin_due<R: Net + Threads>(
         &mut self,
         machine: &R,
         rt: &HostRuntime,
@@ -261,7 +256,7 @@ impl Secondary {
 
     /// Takes what came of a check, discards an obsolete copy, and begins a check that is due. Whether another copy, or none, is
     /// served from now on.
-    pub(crate) fn look<R: Net + Threads + Copy + Send + 'static>(
+    pub(crate) fn look<R: Net + Threads>(
         &mut self,
         machine: &R,
         rt: &HostRuntime,

@@ -18,7 +18,11 @@ pub(crate) struct Judged {
 }
 
 /// Reads and judges the zones of a configuration. Zones whose secondary has no copy are without data.
-fn judged(rt: &HostRuntime, config: &Config, secondaries: &[Secondary]) -> anyhow::Result<Judged> {
+fn judge_zones(
+    rt: &HostRuntime,
+    config: &Config,
+    secondaries: &[Secondary],
+) -> anyhow::Result<Judged> {
     let generation = load_generation(rt, config, secondaries)?;
     let summaries = Vec::from_slice(rt.alloc(), generation.summaries())?;
     let service = Arc::new(rt.alloc(), generation.into_service())?;
@@ -43,7 +47,7 @@ impl Served {
         secondaries: &[Secondary],
     ) -> anyhow::Result<Served> {
         let settings = config.settings(rt.alloc())?;
-        let zones = judged(rt, &config, secondaries)?;
+        let zones = judge_zones(rt, &config, secondaries)?;
         Ok(Served {
             number,
             config,

@@ -4,14 +4,14 @@ use crate::configuration::Shown;
 use crate::control::{Caller, Control, Order};
 use crate::copies::Copies;
 use crate::counts::counted;
-use crate::layers::layered;
 use crate::listener::Listener;
 use crate::load::report;
 use crate::notifier::Notifier;
-use crate::running::Running;
+use crate::running::{Offer, Running};
 use crate::served::Served;
 use dns_config::Config;
 use dns_host::HostEnd;
+use dns_name::OutOfMemory;
 use dns_reply_counts::ReplyCounts;
 use log::{error, info};
 use std::alloc::Global;
@@ -164,26 +164,30 @@ impl Server {
         self.follow_copies(rt)
     }
 
+    /// What is served at a listener.
+    fn offer(&self, alloc: Global) -> Result<Offer, OutOfMemory> {
+        let served = &self.served;
+        let zones = &served.zones.service;
+        Offer::new(
+            alloc,
+            &served.settings,
+            zones,
+            self.copies.target(),
+            &self.counts,
+        )
+    }
+
     /// Starts a thread for each listener, in which it serves.
     fn start<R: Clock + Threads + Wait + Copy + Send + Sync + 'static>(
         &mut self,
         machine: R,
         alloc: Global,
     ) -> anyhow::Result<Vec<Running>> {
-        let served = &self.served;
-        let zones = &served.zones.service;
-        let service = layered(
-            alloc,
-            &served.settings,
-            zones,
-            self.copies.target(),
-            &self.counts,
-        )?;
         let listeners = mem::replace(&mut self.listeners, Vec::new(alloc));
         let mut running = Vec::new(alloc);
         for listener in listeners {
-            let settings = &self.served.settings;
-            running.push(Running::start(machine, alloc, listener, settings, &service)?)?;
+            let offer = self.offer(alloc)?;
+            running.push(Running::start(machine, alloc, listener, offer)?)?;
         }
         Ok(running)
     }
@@ -282,11 +286,7 @@ impl Server {
 
     /// Looks at the copies and at those who were told of a serial. Where another copy came, or one went, the zones are read and
     /// judged again.
-    fn look<R: Net + Threads + Copy + Send + 'static>(
-        &mut self,
-        machine: &R,
-        rt: &HostRuntime,
-    ) -> anyhow::Result<()> {
+    fn look<R: Net + Threads>(&mut self, machine: &R, rt: &HostRuntime) -> anyhow::Result<()> {
         let now = self.seconds(rt)?;
         self.notifier.look(rt, now.saturating_mul(MILLIS))?;
         if self.copies.look(machine, rt, now)? {
@@ -297,7 +297,7 @@ impl Server {
     }
 
     /// Does what a caller asks, or what the copies lead to. What fails is logged, and what is served stays.
-    fn turn<R: Net + Threads + Copy + Send + 'static>(&mut self, machine: &R, rt: &HostRuntime) {
+    fn turn<R: Net + Threads>(&mut self, machine: &R, rt: &HostRuntime) {
         self.obey_next(rt);
         if self.phase != Phase::Serving {
             return;
@@ -308,7 +308,7 @@ impl Server {
     }
 
     /// Waits until another generation is to be served, or none, or a listener ends by itself. Then each listener is shut down.
-    fn wait<R: Net + Threads + Wait + Clock + Copy + Send + 'static>(
+    fn wait<R: Net + Threads + Wait + Clock>(
         &mut self,
         machine: &R,
         rt: &HostRuntime,
