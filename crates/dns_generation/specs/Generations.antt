@@ -1,0 +1,68 @@
+-- What is made of the text of a zone file (RFC 1035, section 5), and the zones of a generation.
+use Rattle.std.specs.Prelude.{ℕ, ◌≡◌, List, [], ◌∷◌, ◌++◌, length, Option, Some, None, Result, Ok, Err}
+use Rattle.dns_message.specs.declared.record.Record.{Record}
+use Rattle.dns_secondary.specs.Copies.{timers_of}
+use Rattle.dns_secondary.specs.declared.timers.SoaTimers.{SoaTimers}
+use Rattle.dns_zone_file.specs.ZoneFile.{zone_file}
+use Rattle.dns_zone.specs.Owned.{ZoneState}
+use Rattle.dns_zone_tree.specs.TreeErrors.{Makes, tree_error}
+use Rattle.dns_authority.specs.Authorities.{AuthorityState}
+use Rattle.dns_authority.specs.declared.networks.Network.{Network}
+use Rattle.dns_config.specs.declared.prefix.Prefix.{Prefix}
+use Rattle.dns_generation.specs.declared.fault.ZoneFault.{ZoneFault}
+use Rattle.dns_generation.specs.declared.fault.ZoneFault.TheVariants.{Line, NotZone, OutOfMemory}
+use Rattle.dns_generation.specs.declared.generation.ZoneSummary.{ZoneSummary}
+
+abbrev pub network_of : Prefix → Network
+network_of p = record { address = p.address; bits = p.bits }
+
+-- the zone whose apex is the file's origin and whose records are those that the file writes
+abbrev pub IsWritten : List (List ℕ) → List ℕ → ZoneState → Type 0
+IsWritten apex text z = (z.apex ≡ apex) × (zone_file apex text ≡ Ok z.records) × (tree_error apex z.records ≡ None)
+
+-- why a zone file isn't served: the line that is refused, or why its records are no zone
+abbrev pub HasFault : List (List ℕ) → List ℕ → ZoneFault → Type 0
+HasFault apex text (Line line reason) = zone_file apex text ≡ Err (line, reason)
+HasFault apex text (NotZone error) = (records : List Record) × (zone_file apex text ≡ Ok records) × Makes (tree_error apex records) (record { apex = apex; records = records }) (Err error)
+HasFault apex text OutOfMemory = Unit {0}
+
+-- what the first SOA record says of copies (RFC 1035, section 3.3.13)
+abbrev pub first_or : {A : Type 0} → Option A → Option A → Option A
+first_or (Some x) o = Some x
+first_or None o = o
+
+abbrev pub timers_among : List Record → Option SoaTimers
+timers_among [] = None
+timers_among (r ∷ rs) = first_or (timers_of r.rdata) (timers_among rs)
+
+-- a generation: what answers, the apexes of the zones that are served and of those that have no data, and a summary of each zone in
+-- their order
+pub record GenerationState : Type 0 where
+  pub authority : AuthorityState
+  pub served : List (List (List ℕ))
+  pub withheld : List (List (List ℕ))
+  pub summaries : List ZoneSummary
+
+abbrev pub summary_of : List Record → ZoneSummary
+summary_of records = record { timers = timers_among records; records = length records }
+
+-- a zone is behind the others
+abbrev pub with_zone : ZoneState → GenerationState → GenerationState
+with_zone z g = record g {
+  authority = record g.authority { zones = g.authority.zones ++ z ∷ [] };
+  served = g.served ++ z.apex ∷ [];
+  summaries = g.summaries ++ summary_of z.records ∷ [];
+}
+
+-- a zone without data is behind the others
+abbrev pub with_withheld : List (List ℕ) → GenerationState → GenerationState
+with_withheld apex g = record g {
+  withheld = g.withheld ++ apex ∷ [];
+  summaries = g.summaries ++ (record { timers = None; records = 0 }) ∷ [];
+}
+
+-- the zone that a file writes is behind the others
+pub record AddsFile (apex : List (List ℕ)) (text : List ℕ) (a b : GenerationState) : Type 0 where
+  pub zone : ZoneState
+  pub written : IsWritten apex text zone
+  pub added : b ≡ with_zone zone a

@@ -1,0 +1,38 @@
+//! Why the text of a zone file isn't served.
+
+ghost use Rattle.std.specs.Prelude.{◌≡◌};
+
+use dns_name::OutOfMemory;
+use dns_zone_file::EntryReason;
+use dns_zone_tree::TreeError;
+use std::alloc::AllocError;
+
+/// Why the text of a zone file isn't served.
+#[derive(Clone, Copy, Debug)]
+pub enum ZoneFault {
+    /// A line, counted from 1, and why it is refused.
+    Line { line: u64, reason: EntryReason },
+    /// Its records are no zone.
+    NotZone(TreeError),
+    OutOfMemory,
+}
+
+impl From<OutOfMemory> for ZoneFault {
+    ghost use Rattle.dns_generation.specs.declared.fault.ZoneFault.TheVariants.{OutOfMemory as NoMemory};
+
+    ghost from_gives = { λ _ e. e ≡ NoMemory };
+
+    fn from(_error: OutOfMemory) -> ZoneFault {
+        ZoneFault::OutOfMemory
+    }
+}
+
+impl From<AllocError> for ZoneFault {
+    ghost use Rattle.dns_generation.specs.declared.fault.ZoneFault.TheVariants.{OutOfMemory as NoMemory};
+
+    ghost from_gives = { λ _ e. e ≡ NoMemory };
+
+    fn from(_error: AllocError) -> ZoneFault {
+        ZoneFault::OutOfMemory
+    }
+}

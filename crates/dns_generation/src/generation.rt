@@ -1,0 +1,176 @@
+//! Zones that were read and judged.
+
+ghost use Rattle.std.specs.Prelude.{◌≡◌, ◌<◌, ◌++◌, ◌∷◌, [], IfErr, OnErr, OnOk, vec_capacity, vec_len};
+ghost use Rattle.dns_authority.specs.Authorities.{authority_answer};
+ghost use Rattle.dns_secondary_service.specs.Withheld.{withholding};
+ghost use Rattle.dns_generation.specs.Generations.{AddsFile, HasFault, summary_of, timers_among, with_withheld, with_zone};
+
+use crate::fault::ZoneFault;
+use crate::zones::zone_of;
+use dns_authority::{Authority, Network};
+use dns_message::Record;
+use dns_name::{Name, OutOfMemory};
+use dns_secondary::SoaTimers;
+use dns_secondary_service::Withholding;
+use dns_service::Service;
+use dns_zone_tree::ZoneTree;
+use std::alloc::Global;
+use std::marker::Model;
+
+/// A zone in few words.
+#[derive(Clone, Copy)]
+pub struct ZoneSummary {
+    /// What its SOA record says of copies; nothing where the zone has no data.
+    pub timers: Option<SoaTimers>,
+    /// How many records it has.
+    pub records: usize,
+}
+
+/// Zones that were read and judged, the authority over them, and zones that have no data.
+#[derive(Drop)]
+pub struct Generation {
+    authority: Authority,
+    served: Vec<Name>,
+    withheld: Vec<Name>,
+    summaries: Vec<ZoneSummary>,
+}
+
+impl Model for Generation {
+    ghost use Rattle.dns_generation.specs.Generations.{GenerationState};
+
+    ghost Value = { GenerationState };
+
+    ghost view = { λ g. record { authority = g.authority; served = g.served.items; withheld = g.withheld.items; summaries = g.summaries.items } };
+}
+
+/// What the first SOA record of some records says of copies.
+fn timers_among(records: &[Record]) -> Option<SoaTimers>
+    ensures { result ≡ timers_among records.now }
+{
+    for record in records {
+        let timers = SoaTimers::of(&record.rdata);
+        if timers.is_some() {
+            return timers;
+        }
+    }
+    None
+}
+
+/// Records in few words.
+fn summary_of(records: &[Record]) -> ZoneSummary
+    ensures { result ≡ summary_of records.now }
+{
+    ZoneSummary {
+        timers: timers_among(records),
+        records: records.len(),
+    }
+}
+
+/// Makes room for an apex and its summary.
+fn reserve_both(apexes: &mut Vec<Name>, summaries: &mut Vec<ZoneSummary>) -> Result<(), OutOfMemory>
+    ensures apexes { apexes.new.items ≡ apexes.old.items }
+    ensures summaries { summaries.new.items ≡ summaries.old.items }
+    ensures room { OnOk result ((vec_len apexes.new < vec_capacity apexes.new) × (vec_len summaries.new < vec_capacity summaries.new)) }
+{
+    apexes.reserve(1)?;
+    summaries.reserve(1)?;
+    Ok(())
+}
+
+/// Adds an apex and its summary, for which there is room.
+fn push_both(
+    apexes: &mut Vec<Name>,
+    summaries: &mut Vec<ZoneSummary>,
+    apex: Name,
+    summary: ZoneSummary,
+)
+    requires apexes { vec_len apexes.old < vec_capacity apexes.old }
+    requires summaries { vec_len summaries.old < vec_capacity summaries.old }
+    ensures apexes { apexes.new.items ≡ apexes.old.items ++ apex ∷ [] }
+    ensures summaries { summaries.new.items ≡ summaries.old.items ++ summary ∷ [] }
+{
+    apexes.push_reserved(apex);
+    summaries.push_reserved(summary);
+}
+
+impl Generation {
+    /// A generation of no zone, whose zones may be transferred to these networks.
+    pub fn new(alloc: Global, allowed: Vec<Network>) -> Generation
+        ensures { result ≡ record { authority = record { zones = []; allowed = allowed.items }; served = []; withheld = []; summaries = [] } }
+    {
+        Generation {
+            authority: Authority::new(alloc, allowed),
+            served: Vec::new(alloc),
+            withheld: Vec::new(alloc),
+            summaries: Vec::new(alloc),
+        }
+    }
+
+    /// Puts a zone with a summary behind the others. A refused call leaves the generation.
+    fn put(
+        &mut self,
+        alloc: Global,
+        apex: Name,
+        zone: ZoneTree,
+        summary: ZoneSummary,
+    ) -> Result<(), OutOfMemory>
+        requires apex { apex ≡ zone.apex }
+        requires summary { summary ≡ summary_of zone.records }
+        ensures ok { OnOk result (self.new ≡ with_zone zone self.old) }
+        ensures err { OnErr result (self.new ≡ self.old) }
+    {
+        reserve_both(&mut self.served, &mut self.summaries)?;
+        self.authority.add(alloc, zone)?;
+        push_both(&mut self.served, &mut self.summaries, apex, summary);
+        Ok(())
+    }
+
+    /// Reads a zone of the text of its file, judges it, and puts it behind the others. A refused call leaves the generation.
+    pub fn add(&mut self, alloc: Global, apex: &Name, text: &[u8]) -> Result<(), ZoneFault>
+        ensures ok { OnOk result (AddsFile apex.now text.now self.old self.new) }
+        ensures fault { IfErr result (HasFault apex.now text.now) }
+        ensures err { OnErr result (self.new ≡ self.old) }
+    {
+        let zone = zone_of(alloc, apex, text)?;
+        let apex = apex.try_clone(alloc)?;
+        let summary = summary_of(zone.records());
+        self.put(alloc, apex, zone, summary)?;
+        Ok(())
+    }
+
+    /// Puts a zone without data behind the others: a query for its names is answered SERVFAIL. A refused call leaves the
+    /// generation.
+    pub fn withhold(&mut self, alloc: Global, apex: &Name) -> Result<(), OutOfMemory>
+        ensures ok { OnOk result (self.new ≡ with_withheld apex.now self.old) }
+        ensures err { OnErr result (self.new ≡ self.old) }
+    {
+        let apex = apex.try_clone(alloc)?;
+        let summary = ZoneSummary {
+            timers: None,
+            records: 0,
+        };
+        reserve_both(&mut self.withheld, &mut self.summaries)?;
+        push_both(&mut self.withheld, &mut self.summaries, apex, summary);
+        Ok(())
+    }
+
+    /// Each zone in few words, in the order in which they were put behind each other.
+    pub fn summaries(&self) -> &[ZoneSummary]
+        ensures { result.now ≡ self.now.summaries }
+    {
+        self.summaries.as_slice()
+    }
+
+    /// What answers: the authority, behind the zones that have no data.
+    pub fn into_service(self) -> Withholding<Authority>
+        ensures { ⟦<Withholding<Authority> as Service<()>>⟧.answer result ≡ withholding self.served self.withheld (authority_answer self.authority) }
+    {
+        let Generation {
+            authority,
+            served,
+            withheld,
+            ..
+        } = self;
+        Withholding::new(authority, served, withheld)
+    }
+}

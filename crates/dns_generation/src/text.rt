@@ -1,0 +1,79 @@
+//! Why a line of a zone file is refused, in words.
+
+use crate::fault::ZoneFault;
+use dns_zone_file::EntryReason;
+use dns_zone_tree::TreeError;
+use std::error::Error;
+use std::fmt;
+
+/// Why a line of a zone file is refused.
+fn reason_text(reason: EntryReason) -> &'static str {
+    match reason {
+        EntryReason::Parenthesis => "a parenthesis has no counterpart",
+        EntryReason::Quote => "a quoted string has no end in its line",
+        EntryReason::Escape => "a backslash stands in front of nothing that it escapes",
+        EntryReason::Directive => "a directive other than $ORIGIN and $TTL",
+        EntryReason::Include => "$INCLUDE isn't read",
+        EntryReason::NoOwner => "the first entry has no owner",
+        EntryReason::NoTtl => "no TTL is given here or before",
+        EntryReason::Class => "the class isn't IN",
+        EntryReason::UnknownType => "the type isn't known",
+        EntryReason::Missing => "a word is missing",
+        EntryReason::Trailing => "a word is left over",
+        EntryReason::Number => "no number, or one that is too large",
+        EntryReason::Time => "no time of a signature",
+        EntryReason::Address => "no address",
+        EntryReason::Name => "no name",
+        EntryReason::LongName => "a name has more than 255 octets",
+        EntryReason::LongString => "a string has more than 255 octets",
+        EntryReason::Quoted => "quotes stand where no string does",
+        EntryReason::Hex => "no hexadecimal digits",
+        EntryReason::Base64 => "no base64",
+        EntryReason::Base32 => "no base32",
+        EntryReason::Parameter => "a service parameter isn't known, or has a value of another form",
+        EntryReason::Repeated => "a service parameter stands twice",
+        EntryReason::Length => "other octets than were said, or too many",
+        EntryReason::Shape => "data that isn't of its type's shape",
+    }
+}
+
+/// Why records are no zone, the record's place counted from 0.
+fn write_cause<W: fmt::Write>(error: TreeError, f: &mut fmt::Formatter<W>) -> fmt::Result {
+    match error {
+        TreeError::Outside(place) => write!(f, "no zone: record {place} is outside of it"),
+        TreeError::Class(place) => write!(f, "no zone: record {place} has another class than IN"),
+        TreeError::Opt(place) => write!(f, "no zone: record {place} is an OPT record"),
+        TreeError::Soa(count) => write!(f, "no zone: it has {count} SOA records"),
+        TreeError::SoaPlace(place) => {
+            write!(f, "no zone: record {place} is an SOA record below the apex")
+        }
+        TreeError::WildNs(place) => write!(
+            f,
+            "no zone: record {place} is an NS record at a wildcard"
+        ),
+        TreeError::Long(place) => write!(
+            f,
+            "no zone: record {place} takes more than 65,000 octets"
+        ),
+        TreeError::Cname(place) => {
+            write!(f, "no zone: record {place} is a CNAME beside other records")
+        }
+        TreeError::OutOfMemory => f.write_str("out of memory"),
+    }
+}
+
+/// The line and its reason; or what the records are no zone for.
+impl fmt::Display for ZoneFault {
+    fn fmt<W: fmt::Write>(&self, f: &mut fmt::Formatter<W>) -> fmt::Result {
+        match self {
+            ZoneFault::Line { line, reason } => {
+                let said = reason_text(*reason);
+                write!(f, "line {line}: {said}")
+            }
+            ZoneFault::NotZone(error) => write_cause(*error, f),
+            ZoneFault::OutOfMemory => f.write_str("out of memory"),
+        }
+    }
+}
+
+impl Error for ZoneFault {}

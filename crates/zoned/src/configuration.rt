@@ -1,0 +1,51 @@
+//! Configurations that are read of files, and addresses as text.
+
+use anyhow::{Context, bail};
+use dns_config::{Config, read_config};
+use dns_name::{IpAddr, SocketAddr};
+use std::alloc::{AllocError, Global};
+use std::{fmt, fs};
+
+/// An address and a port as text, the address of IPv6 in brackets.
+#[derive(Clone, Copy)]
+pub(crate) struct Shown(pub(crate) SocketAddr);
+
+impl fmt::Display for Shown {
+    fn fmt<W: fmt::Write>(&self, f: &mut fmt::Formatter<W>) -> fmt::Result {
+        let ip = self.0.ip;
+        let port = self.0.port;
+        match ip {
+            IpAddr::V4(_) => write!(f, "{ip}:{port}"),
+            IpAddr::V6(_) => write!(f, "[{ip}]:{port}"),
+        }
+    }
+}
+
+/// The lines of a text in one.
+fn in_one_line(alloc: Global, text: &str) -> Result<String, AllocError> {
+    let mut line = String::new(alloc);
+    for part in text.lines() {
+        if !line.is_empty() {
+            line.push_str(": ")?;
+        }
+        line.push_str(part)?;
+    }
+    Ok(line)
+}
+
+/// The configuration that a text is.
+fn configuration(alloc: Global, text: &str) -> anyhow::Result<Config> {
+    match read_config(alloc, text) {
+        Ok(config) => Ok(config),
+        Err(error) => {
+            let said = format!(in alloc; "{error}")?;
+            bail!("{}", in_one_line(alloc, said.as_str())?)
+        }
+    }
+}
+
+/// The configuration that a file has.
+pub(crate) fn load_config(rt: &HostRuntime, path: &str) -> anyhow::Result<Config> {
+    let text = fs::read_to_string(rt, path).context(format_args!("{path}"))?;
+    configuration(rt.alloc(), text.as_str()).context(format_args!("{path}"))
+}

@@ -1,0 +1,390 @@
+//! A server: generation after generation at the listeners.
+
+use crate::configuration::Shown;
+use crate::control::{Caller, Control, Order};
+use crate::copies::Copies;
+use crate::counts::counted;
+use crate::listener::Listener;
+use crate::load::report;
+use crate::notifier::Notifier;
+use crate::running::{Offer, Running};
+use crate::served::Served;
+use dns_config::Config;
+use dns_host::HostEnd;
+use dns_name::OutOfMemory;
+use dns_reply_counts::ReplyCounts;
+use log::{error, info};
+use std::alloc::Global;
+use std::net::Net;
+use std::random::RandomSource;
+use std::rt::{Clock, Files};
+use std::sync::{Arc, Wait};
+use std::thread::Threads;
+use std::time::{Duration, Instant};
+use std::{mem, thread};
+
+/// How often it is looked whether something is asked.
+const LOOK_MILLIS: u64 = 50;
+
+/// How many milliseconds a second has.
+const MILLIS: u64 = 1_000;
+
+/// How long nothing is served after a listener ended by itself.
+const PAUSE_MILLIS: u64 = 1_000;
+
+/// How far the generation that is served is.
+#[derive(Clone, Copy, PartialEq, Eq)]
+enum Phase {
+    /// It is served.
+    Serving,
+    /// Another one is to be served.
+    Renewed,
+    /// Nothing more is to be served.
+    Stopped,
+}
+
+/// A server: where it listens, what it serves and who controls it.
+#[derive(Drop)]
+struct Server {
+    path: String,
+    since: Instant,
+    served: Served,
+    copies: Copies,
+    notifier: Notifier,
+    counts: Arc<ReplyCounts>,
+    control: Option<Control>,
+    listeners: Vec<Listener>,
+    phase: Phase,
+}
+
+/// Whether a listener was shut down or has ended by itself.
+fn has_ended<R: Wait>(machine: &R, running: &mut [Running]) -> bool {
+    for one in running {
+        if one.is_closed(machine) {
+            return true;
+        }
+    }
+    false
+}
+
+/// Shuts each listener down.
+fn close_all<R: Wait>(machine: &R, running: &mut [Running]) {
+    for one in running {
+        one.close(machine);
+    }
+}
+
+/// Says why a reload is refused.
+fn refuse(rt: &HostRuntime, caller: &mut Caller, fault: &anyhow::Error) -> anyhow::Result<()> {
+    error!(rt; "reload refused: {fault:#}");
+    let text = format!(in rt.alloc(); "refused: {fault:#}\n")?;
+    caller.say(text.as_str())?;
+    Ok(())
+}
+
+/// Opens the sockets of each address.
+fn bind_all<R: Net>(machine: &R, alloc: Global, config: &Config) -> anyhow::Result<Vec<Listener>> {
+    let mut listeners = Vec::new(alloc);
+    for endpoint in config.listen.iter() {
+        listeners.push(Listener::bind(machine, endpoint.address)?)?;
+    }
+    Ok(listeners)
+}
+
+/// Opens the control socket, where one is named.
+fn open_control<R: Net + Files>(
+    machine: &R,
+    alloc: Global,
+    config: &Config,
+) -> anyhow::Result<Option<Control>> {
+    match &config.control {
+        Some(path) => Ok(Some(Control::bind(machine, alloc, path.as_str())?)),
+        None => Ok(None),
+    }
+}
+
+/// Says where is listened.
+fn say_listeners(rt: &HostRuntime, listeners: &[Listener]) -> anyhow::Result<()> {
+    for listener in listeners {
+        println!(rt; "listening on {}", Shown(listener.address))?;
+    }
+    Ok(())
+}
+
+impl Server {
+    /// Reads and judges a configuration and its zones. Nothing is open yet.
+    fn new(rt: &HostRuntime, path: &str) -> anyhow::Result<Server> {
+        let alloc = rt.alloc();
+        let since = Instant::now(rt)?;
+        let counts = Arc::new(alloc, ReplyCounts::new(alloc)?)?;
+        let copies = Copies::new(alloc)?;
+        let served = Served::load(rt, 1, path, &[])?;
+        let path = String::from_str(alloc, path)?;
+        Ok(Server {
+            path,
+            since,
+            served,
+            copies,
+            notifier: Notifier::new(alloc),
+            counts,
+            control: None,
+            listeners: Vec::new(alloc),
+            phase: Phase::Serving,
+        })
+    }
+
+    /// Opens all sockets, and says where is listened.
+    fn open<R: Net + Files>(&mut self, machine: &R, rt: &HostRuntime) -> anyhow::Result<()> {
+        let alloc = rt.alloc();
+        self.listeners = bind_all(machine, alloc, &self.served.config)?;
+        self.control = open_control(machine, alloc, &self.served.config)?;
+        self.follow_copies(rt)?;
+        say_listeners(rt, self.listeners.as_slice())
+    }
+
+    /// How many seconds the server runs.
+    fn seconds(&self, rt: &HostRuntime) -> anyhow::Result<u64> {
+        Ok(self.since.elapsed(rt)?.as_secs())
+    }
+
+    /// Goes on to the copies of the zones that are served.
+    fn follow_copies(&mut self, rt: &HostRuntime) -> anyhow::Result<()> {
+        let now = self.seconds(rt)?;
+        let served = &self.served;
+        let summaries = served.zones.summaries.as_slice();
+        self.copies
+            .follow(rt.alloc(), &served.config, summaries, now)?;
+        Ok(())
+    }
+
+    /// Goes on to another generation.
+    fn go_on(&mut self, rt: &HostRuntime, served: Served) -> anyhow::Result<()> {
+        self.served = served;
+        self.phase = Phase::Renewed;
+        self.follow_copies(rt)
+    }
+
+    /// What is served at a listener.
+    fn offer(&self, alloc: Global) -> Result<Offer, OutOfMemory> {
+        let served = &self.served;
+        let zones = &served.zones.service;
+        Offer::new(
+            alloc,
+            &served.settings,
+            zones,
+            self.copies.target(),
+            &self.counts,
+        )
+    }
+
+    /// Starts a thread for each listener, in which it serves.
+    fn start<R: Clock + Threads + Wait + Copy + Send + Sync + 'static>(
+        &mut self,
+        machine: R,
+        alloc: Global,
+    ) -> anyhow::Result<Vec<Running>> {
+        let listeners = mem::replace(&mut self.listeners, Vec::new(alloc));
+        let mut running = Vec::new(alloc);
+        for listener in listeners {
+            let offer = self.offer(alloc)?;
+            running.push(Running::start(machine, alloc, listener, offer)?)?;
+        }
+        Ok(running)
+    }
+
+    /// Takes the listeners back, each once it has ended.
+    fn take_back<R: Threads>(
+        &mut self,
+        machine: &R,
+        rt: &HostRuntime,
+        running: Vec<Running>,
+    ) -> anyhow::Result<()> {
+        for one in running {
+            let (listener, end) = one.join(machine);
+            if end != HostEnd::Done {
+                error!(rt; "{}: an accept, a thread, a receive or a send failed", Shown(listener.address));
+            }
+            self.listeners.push(listener)?;
+        }
+        Ok(())
+    }
+
+    /// Appends a line for each zone, behind what stands before.
+    fn say_zones(&self, alloc: Global, caller: &mut Caller) -> anyhow::Result<()> {
+        let served = &self.served;
+        let text = report(alloc, &served.config, served.zones.summaries.as_slice())?;
+        caller.say(text.as_str())?;
+        Ok(())
+    }
+
+    /// Says what is served, and how many replies were given.
+    fn say_status(&self, rt: &HostRuntime, caller: &mut Caller) -> anyhow::Result<()> {
+        let alloc = rt.alloc();
+        let seconds = self.seconds(rt)?;
+        let number = self.served.number;
+        let text = format!(in alloc; "ok\ngeneration {number}, up for {seconds} s\n")?;
+        caller.say(text.as_str())?;
+        self.say_zones(alloc, caller)?;
+        let text = counted(alloc, &self.counts)?;
+        caller.say(text.as_str())?;
+        Ok(())
+    }
+
+    /// Says what is known of each copy.
+    fn say_transfers(&self, alloc: Global, caller: &mut Caller) -> anyhow::Result<()> {
+        let text = self.copies.report(alloc)?;
+        caller.say("ok\n")?;
+        caller.say(text.as_str())?;
+        Ok(())
+    }
+
+    /// Reads and judges what follows; where it is refused, what is served stays.
+    fn following(&self, rt: &HostRuntime) -> anyhow::Result<Served> {
+        let number = self.served.number.saturating_add(1);
+        Served::load(rt, number, self.path.as_str(), self.copies.as_slice())
+    }
+
+    /// Goes on to what follows, if it isn't refused, and says so.
+    fn reload(&mut self, rt: &HostRuntime, caller: &mut Caller) -> anyhow::Result<()> {
+        match self.following(rt) {
+            Ok(served) => {
+                self.go_on(rt, served)?;
+                caller.say("ok\n")?;
+                self.say_zones(rt.alloc(), caller)
+            }
+            Err(fault) => refuse(rt, caller, &fault),
+        }
+    }
+
+    /// Does what a caller asks.
+    fn obey(&mut self, rt: &HostRuntime, caller: &mut Caller) -> anyhow::Result<()> {
+        match caller.order(rt.alloc())? {
+            Some(Order::Status) => self.say_status(rt, caller)?,
+            Some(Order::Transfers) => self.say_transfers(rt.alloc(), caller)?,
+            Some(Order::Reload) => self.reload(rt, caller)?,
+            Some(Order::Stop) => {
+                self.phase = Phase::Stopped;
+                caller.say("ok\n")?;
+            }
+            None => caller.say("no such order\n")?,
+        }
+        Ok(())
+    }
+
+    /// Does what the next caller asks, if there is one. A caller that can't be heard or told is left.
+    fn obey_next(&mut self, rt: &HostRuntime) {
+        let caller = match &self.control {
+            Some(control) => control.caller(),
+            None => None,
+        };
+        if let Some(mut caller) = caller {
+            if let Err(fault) = self.obey(rt, &mut caller) {
+                error!(rt; "control: {fault:#}");
+            }
+        }
+    }
+
+    /// Looks at the copies and at those who were told of a serial. Where another copy came, or one went, the zones are read and
+    /// judged again.
+    fn look<R: Net + Threads>(&mut self, machine: &R, rt: &HostRuntime) -> anyhow::Result<()> {
+        let now = self.seconds(rt)?;
+        self.notifier.look(rt, now.saturating_mul(MILLIS))?;
+        if self.copies.look(machine, rt, now)? {
+            let served = self.served.renewed(rt, self.copies.as_slice())?;
+            self.go_on(rt, served)?;
+        }
+        Ok(())
+    }
+
+    /// Does what a caller asks, or what the copies lead to. What fails is logged, and what is served stays.
+    fn turn<R: Net + Threads>(&mut self, machine: &R, rt: &HostRuntime) {
+        self.obey_next(rt);
+        if self.phase != Phase::Serving {
+            return;
+        }
+        if let Err(fault) = self.look(machine, rt) {
+            error!(rt; "{fault:#}");
+        }
+    }
+
+    /// Waits until another generation is to be served, or none, or a listener ends by itself. Then each listener is shut down.
+    fn wait<R: Net + Threads + Wait + Clock>(
+        &mut self,
+        machine: &R,
+        rt: &HostRuntime,
+        running: &mut [Running],
+    ) {
+        for _ in machine.forever() {
+            if has_ended(machine, running) {
+                error!(rt; "a listener ended by itself; all are started again");
+                thread::sleep(machine, Duration::from_millis(PAUSE_MILLIS));
+                break;
+            }
+            self.turn(machine, rt);
+            if self.phase != Phase::Serving {
+                break;
+            }
+            thread::sleep(machine, Duration::from_millis(LOOK_MILLIS));
+        }
+        close_all(machine, running);
+    }
+
+    /// Tells of the serials that are served. That this fails is logged.
+    fn tell<R: Net + RandomSource>(&mut self, machine: &R, rt: &HostRuntime) -> anyhow::Result<()> {
+        let now = self.seconds(rt)?.saturating_mul(MILLIS);
+        self.notifier.tell_changes(machine, rt, &self.served, now)
+    }
+
+    /// Serves a generation until another one is to be served, or none, or a listener ends by itself.
+    fn serve_generation<
+        R: Net + Clock + RandomSource + Threads + Wait + Copy + Send + Sync + 'static,
+    >(&mut self, machine: R, rt: &HostRuntime) -> anyhow::Result<()> {
+        info!(rt; "generation {} is served", self.served.number);
+        self.phase = Phase::Serving;
+        if let Err(fault) = self.tell(&machine, rt) {
+            error!(rt; "NOTIFY: {fault:#}");
+        }
+        let mut running = self.start(machine, rt.alloc())?;
+        self.wait(&machine, rt, running.as_mut_slice());
+        self.take_back(&machine, rt, running)
+    }
+
+    /// Opens all sockets, and serves generation after generation until the server is stopped.
+    fn run<R: Net + Files + Clock + RandomSource + Threads + Wait + Copy + Send + Sync + 'static>(
+        &mut self,
+        machine: R,
+        rt: &HostRuntime,
+    ) -> anyhow::Result<()> {
+        self.open(&machine, rt)?;
+        for _ in machine.forever() {
+            self.serve_generation(machine, rt)?;
+            if self.phase == Phase::Stopped {
+                break;
+            }
+        }
+        Ok(())
+    }
+
+    /// Ends the checks of copies, and removes the control socket.
+    fn end<R: Files + Threads>(self, machine: &R) {
+        let Server {
+            copies,
+            control,
+            ..
+        } = self;
+        copies.end(machine);
+        if let Some(control) = control {
+            control.remove(machine);
+        }
+    }
+}
+
+/// Serves by a configuration until the server is stopped.
+pub(crate) fn serve<
+    R: Net + Files + Clock + RandomSource + Threads + Wait + Copy + Send + Sync + 'static,
+>(machine: R, rt: &HostRuntime, path: &str) -> anyhow::Result<()> {
+    let mut server = Server::new(rt, path)?;
+    let outcome = server.run(machine, rt);
+    server.end(&machine);
+    outcome
+}
