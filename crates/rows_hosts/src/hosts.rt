@@ -1,16 +1,19 @@
 //! Whole hosts, whose service stands in all layers.
 
-ghost use Rattle.std.specs.Prelude.{◌≡◌};
+ghost use Rattle.std.specs.Prelude.{◌≡◌, IfOk};
 ghost use Rattle.std.specs.Arc.{arc_value};
 
-use dns_book::{Book, BookSeat};
+use dns_book::{Book, BookSeat, BookState};
 use dns_middleware::{Notifiable, Settings, Wrapped};
 use dns_name::{OptRcode, OutOfMemory};
 use dns_outside::{AsyncAccept, MemoryClock, MemorySock, MemorySpawner, Packet, Spawner};
-use dns_server::{NotifyRules, ScriptTarget, Status, serve_host};
-use dns_service::{Service, WithoutMeta};
+use dns_server::{
+    NotifyRules, ScriptTarget, Status, Witness, WitnessAccept, WitnessClock, WitnessSock,
+    WitnessSpawner, serve_host_over,
+};
+use dns_service::{ConnectionConfig, DgramConfig, Service, StreamConfig, WithoutMeta};
 use dns_transport::{ConnectionWork, Host, Silent};
-use rows_links::{Holding, Seen, accept_of, book_of, calls, clock, packet, show};
+use rows_links::{Holding, Seen, accept_of, calls, clock, packet, show};
 use std::alloc::Global;
 use std::sync::{Arc, Wait};
 use std::thread::Threads;
@@ -44,15 +47,15 @@ const REPLY: &[u8] = b"\x12\x34\x81\x00\x00\x01\x00\x00\x00\x00\x00\x00\x00\x00\
 const NO_NAME: &[u8] = b"\x12\x34\x81\x03\x00\x01\x00\x00\x00\x00\x00\x00\x00\x00\x01\x00\x01";
 
 /// A query with an OPT record behind its length, and such replies, which say after how many units of 100 ms an idle connection is
-/// closed (RFC 7828).
+/// closed (RFC 7828): by the look at which the connection was admitted, 5 s.
 const FRAME: &[u8] =
     b"\x00\x1c\x12\x34\x01\x00\x00\x01\x00\x00\x00\x00\x00\x01\x00\x00\x01\x00\x01\x00\x00\x29\x00\x00\x00\x00\x00\x00\x00\x00";
 
 const REPLY_FRAME: &[u8] =
-    b"\x00\x22\x12\x34\x81\x00\x00\x01\x00\x00\x00\x00\x00\x01\x00\x00\x01\x00\x01\x00\x00\x29\x00\x00\x00\x00\x00\x00\x00\x06\x00\x0b\x00\x02\x01\x2c";
+    b"\x00\x22\x12\x34\x81\x00\x00\x01\x00\x00\x00\x00\x00\x01\x00\x00\x01\x00\x01\x00\x00\x29\x00\x00\x00\x00\x00\x00\x00\x06\x00\x0b\x00\x02\x00\x32";
 
 const NO_NAME_FRAME: &[u8] =
-    b"\x00\x22\x12\x34\x81\x03\x00\x01\x00\x00\x00\x00\x00\x01\x00\x00\x01\x00\x01\x00\x00\x29\x00\x00\x00\x00\x00\x00\x00\x06\x00\x0b\x00\x02\x01\x2c";
+    b"\x00\x22\x12\x34\x81\x03\x00\x01\x00\x00\x00\x00\x00\x01\x00\x00\x01\x00\x01\x00\x00\x29\x00\x00\x00\x00\x00\x00\x00\x06\x00\x0b\x00\x02\x00\x32";
 
 /// Datagrams of these octets.
 fn packets(alloc: Global, datagrams: &[&[u8]]) -> Result<Vec<Packet>, OutOfMemory> {
@@ -102,9 +105,21 @@ struct Given<S, N> {
     target: N,
 }
 
-/// What serves the connections of a service and a target in layers.
-type Connections<L, S, N> = MemorySpawner<
-    ConnectionWork<L, MemoryClock, Silent, WithoutMeta<Wrapped<S, N>>>,
+/// The work of a connection by a service and a target in layers.
+type Connection<L, S, N> = ConnectionWork<
+    Witness<L>,
+    WitnessClock<MemoryClock>,
+    Silent,
+    WithoutMeta<Wrapped<S, N>>,
+>;
+
+/// A host over witnesses of objects in memory.
+type Witnessed<A, P> = Host<
+    WitnessAccept<A>,
+    WitnessSock<MemorySock>,
+    WitnessClock<MemoryClock>,
+    WitnessSpawner<P>,
+    Silent,
 >;
 
 impl HostCase<'_> {
@@ -153,11 +168,11 @@ fn end_in<
     A: AsyncAccept,
     S: Service<()> + Send + Sync + 'static,
     N: Notifiable + Send + Sync + 'static,
-    P: Spawner<ConnectionWork<A::Link, MemoryClock, Silent, WithoutMeta<Wrapped<S, N>>>>,
+    P: Spawner<Connection<A::Link, S, N>>,
 >(
     rt: &R,
     alloc: Global,
-    host: &mut Host<A, MemorySock, MemoryClock, P, Silent>,
+    host: &mut Witnessed<A, P>,
     service: S,
     target: N,
     book: &Arc<Book>,
@@ -173,10 +188,23 @@ where
     requires can_call { S.can_call service }
 {
     let settings = Settings::new(alloc);
-    let (mut seat, status) = serve_host(
+    let (mut seat, status) = serve_host_over(
         rt, alloc, &settings, service, target, book, seat, host, count,
     );
     (status, book.look(rt, &mut seat).taken)
+}
+
+/// An open book with ten slots, whose connections may be idle for 5 s, and its first seat.
+fn host_book(alloc: Global) -> Result<(Arc<Book>, BookSeat), OutOfMemory>
+    ensures { IfOk result (λ r. r.1.book ≡ arc_value r.0) }
+{
+    let mut connection = ConnectionConfig::new();
+    connection.set_idle_timeout(5_000);
+    let mut stream = StreamConfig::new();
+    stream.set_max_concurrent_connections(10);
+    stream.set_connection_config(connection);
+    let (book, seat) = Book::new(alloc, BookState::new(DgramConfig::new(), stream))?;
+    Ok((Arc::new(alloc, book)?, seat))
 }
 
 /// How a host ends in a new book with ten slots, and how many of them are taken then.
@@ -185,11 +213,11 @@ fn host_end<
     A: AsyncAccept,
     S: Service<()> + Send + Sync + 'static,
     N: Notifiable + Send + Sync + 'static,
-    P: Spawner<ConnectionWork<A::Link, MemoryClock, Silent, WithoutMeta<Wrapped<S, N>>>>,
+    P: Spawner<Connection<A::Link, S, N>>,
 >(
     rt: &R,
     alloc: Global,
-    host: &mut Host<A, MemorySock, MemoryClock, P, Silent>,
+    host: &mut Witnessed<A, P>,
     service: S,
     target: N,
     count: u64,
@@ -201,7 +229,7 @@ where
     N::Future: Send,
     requires { S.can_call service }
 {
-    match book_of(alloc, 10) {
+    match host_book(alloc) {
         Ok((book, seat)) => end_in(rt, alloc, host, service, target, &book, seat, count),
         Err(_) => (Status::OutOfMemory, 1),
     }
@@ -213,12 +241,12 @@ fn host_ends<
     A: AsyncAccept + Drop,
     S: Service<()> + Send + Sync + 'static,
     N: Notifiable + Send + Sync + 'static,
-    P: Spawner<ConnectionWork<A::Link, MemoryClock, Silent, WithoutMeta<Wrapped<S, N>>>> + Drop,
+    P: Spawner<Connection<A::Link, S, N>> + Drop,
 >(
     rt: &R,
     alloc: Global,
     case: &HostCase<'_>,
-    mut host: Host<A, MemorySock, MemoryClock, P, Silent>,
+    mut host: Witnessed<A, P>,
     service: S,
     target: N,
 ) -> bool
@@ -230,7 +258,8 @@ where
     requires { S.can_call service }
 {
     let end = host_end(rt, alloc, &mut host, service, target, case.count);
-    case.is_ended(end, host.sock.sent())
+    let Host { sock, .. } = host;
+    case.is_ended(end, sock.into_inner().sent())
 }
 
 /// Whether a host with this accept object ends as is wanted.
@@ -253,12 +282,15 @@ where
         service,
         target,
     } = given;
-    let spawner: Connections<A::Link, S, N> = MemorySpawner::new(alloc, failed_starts);
+    let spawner: MemorySpawner<Connection<A::Link, S, N>> = MemorySpawner::new(
+        alloc,
+        failed_starts,
+    );
     let host = Host {
-        accept,
-        sock,
-        clock: clock(alloc),
-        spawner,
+        accept: WitnessAccept::new(accept),
+        sock: WitnessSock::new(sock),
+        clock: WitnessClock::new(clock(alloc)),
+        spawner: WitnessSpawner::new(spawner),
         journal: Silent::new(),
     };
     host_ends(rt, alloc, case, host, service, target)
