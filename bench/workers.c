@@ -7,12 +7,18 @@
  *        workers ask PORT THREADS SOCKETS WINDOW MILLIS so many queries in flight from each of so many sockets, each at a port of its
  *                                                       own; the threads share the sockets out
  *
- * The client prints one line of numbers: replies, lost queries, nanoseconds. A reply is what has the identifier of a query in flight.
- * What one socket sends goes out by one call, as segments (UDP_SEGMENT): on the way to the server each is a datagram of its own. */
+ * The client prints one line of numbers: replies, lost queries, nanoseconds. So that one processor drives three servers, it does little
+ * for a query: a socket sends all its queries by one call, as segments (UDP_SEGMENT), of which the server's socket gets each as a datagram
+ * of its own; and it reads no reply. A filter (SO_ATTACH_FILTER) looks at each reply as it comes, which the server's processor does within
+ * the server's send, and drops those that answer the query without an error, whatever their identifier; the socket counts what it dropped
+ * (SO_MEMINFO). Once as many came as were sent the socket sends again. What the filter lets through stays in the socket: then the client
+ * fails. */
 #define _GNU_SOURCE
 #include <arpa/inet.h>
 #include <errno.h>
 #include <inttypes.h>
+#include <linux/filter.h>
+#include <linux/sock_diag.h>
 #include <netinet/in.h>
 #include <netinet/udp.h>
 #include <pthread.h>
@@ -32,7 +38,7 @@
 /* A query for the root's address, RD set; the identifier is written over octets 0 and 1. */
 static const uint8_t QUERY[17] = {0, 0, 1, 0, 0, 1, 0, 0, 0, 0, 0, 0, 0, 0, 1, 0, 1};
 /* At most 64 segments go out by one call. */
-enum { LENGTH = 17, MOST_THREADS = 16, MOST_SOCKETS = 1024, MOST_WINDOW = 64, ROWS = 65536 / MOST_WINDOW, REPLY = 512 };
+enum { LENGTH = 17, MOST_THREADS = 16, MOST_SOCKETS = 1024, MOST_WINDOW = 64, PATIENCE = 100000000 };
 
 static void stop(const char *what) {
     perror(what);
@@ -96,11 +102,14 @@ static void echo(unsigned threads) {
 
 /* ---- The client ---- */
 
-/* A socket of the client: the row of its identifiers, and when a reply came last. */
+/* A socket of the client: how many replies came by it so far, how many of its queries wait for one, and since when none came; 0 where one
+ * came at the last look. */
 struct asker {
     int socket;
-    unsigned row;
-    uint64_t heard;
+    uint16_t id;
+    uint32_t came;
+    unsigned left;
+    uint64_t silent;
 };
 
 /* A thread of the client: its sockets, and what it counted. */
@@ -111,65 +120,80 @@ struct part {
     uint64_t end, replies, lost;
 };
 
-static void send_all(int s, const unsigned *ids, unsigned count) {
+/* Sends as many queries as may be in flight by one call, each with the next identifier. */
+static void send_window(const struct part *p, struct asker *a) {
     uint8_t queries[MOST_WINDOW * LENGTH];
-    for (unsigned i = 0; i < count; i++) {
+    for (unsigned i = 0; i < p->window; i++, a->id++) {
         memcpy(queries + i * LENGTH, QUERY, LENGTH);
-        queries[i * LENGTH] = (uint8_t)(ids[i] >> 8);
-        queries[i * LENGTH + 1] = (uint8_t)ids[i];
+        queries[i * LENGTH] = (uint8_t)(a->id >> 8);
+        queries[i * LENGTH + 1] = (uint8_t)a->id;
     }
-    if (send(s, queries, count * LENGTH, 0) < 0 && errno != EAGAIN && errno != ENOBUFS) stop("send");
+    a->left = p->window;
+    a->silent = 0;
+    if (send(a->socket, queries, p->window * LENGTH, 0) < 0 && errno != EAGAIN && errno != ENOBUFS) stop("send");
 }
 
-static void send_window(const struct asker *a, unsigned window) {
-    unsigned ids[MOST_WINDOW];
-    for (unsigned i = 0; i < window; i++) ids[i] = a->row * MOST_WINDOW + i;
-    send_all(a->socket, ids, window);
+/* How many replies the socket's filter took so far. */
+static uint32_t replies_of(int s) {
+    uint32_t info[SK_MEMINFO_VARS];
+    socklen_t size = sizeof info;
+    if (getsockopt(s, SOL_SOCKET, SO_MEMINFO, info, &size) < 0) stop("SO_MEMINFO");
+    return info[SK_MEMINFO_DROPS];
 }
 
-/* Where nothing comes for 100 ms, the queries in flight are lost, and all are sent anew under identifiers of another row. */
-static void anew(struct part *p, struct asker *a) {
-    if (now() - a->heard < 100000000) return;
-    a->heard = now();
-    p->lost += p->window;
-    a->row = (a->row + 1) % ROWS;
-    send_window(a, p->window);
-}
-
-/* Takes the replies that are there by one call, and sends each query again whose reply came. The client never sleeps, so no server
- * has to wake it. */
+/* Looks how many replies came, and sends the next queries once all did. Where nothing comes for 100 ms, those that are left are lost. The
+ * client never sleeps, so no server has to wake it. */
 static void turn(struct part *p, struct asker *a) {
-    uint8_t buffers[MOST_WINDOW][REPLY];
-    struct iovec pieces[MOST_WINDOW];
-    struct mmsghdr messages[MOST_WINDOW];
-    unsigned ids[MOST_WINDOW], again = 0;
-    for (unsigned i = 0; i < p->window; i++) {
-        pieces[i] = (struct iovec){.iov_base = buffers[i], .iov_len = REPLY};
-        messages[i].msg_hdr = (struct msghdr){.msg_iov = &pieces[i], .msg_iovlen = 1};
+    uint32_t came = replies_of(a->socket) - a->came;
+    a->came += came;
+    p->replies += came;
+    if (came >= a->left) {
+        send_window(p, a);
+    } else if (came > 0) {
+        a->left -= came;
+        a->silent = 0;
+    } else if (a->silent == 0) {
+        a->silent = now();
+    } else if (now() - a->silent >= PATIENCE) {
+        p->lost += a->left;
+        send_window(p, a);
     }
-    int came = recvmmsg(a->socket, messages, p->window, MSG_DONTWAIT, NULL);
-    for (int i = 0; i < came; i++) {
-        unsigned id = (unsigned)buffers[i][0] << 8 | buffers[i][1];
-        if (messages[i].msg_len >= 12 && id / MOST_WINDOW == a->row && id % MOST_WINDOW < p->window) ids[again++] = id;
+}
+
+/* Fails where the filter let something through. */
+static void check(int s) {
+    uint8_t octet;
+    if (recv(s, &octet, 1, MSG_DONTWAIT) >= 0) {
+        fprintf(stderr, "a reply isn't what was wanted\n");
+        exit(1);
     }
-    if (again == 0) {
-        anew(p, a);
-        return;
-    }
-    a->heard = now();
-    p->replies += again;
-    send_all(a->socket, ids, again);
 }
 
 static void *ask_loop(void *argument) {
     struct part *p = argument;
-    for (unsigned i = 0; i < p->count; i++) {
-        p->askers[i].heard = now();
-        send_window(&p->askers[i], p->window);
-    }
+    for (unsigned i = 0; i < p->count; i++) send_window(p, &p->askers[i]);
     while (now() < p->end)
         for (unsigned i = 0; i < p->count; i++) turn(p, &p->askers[i]);
+    for (unsigned i = 0; i < p->count; i++) check(p->askers[i].socket);
     return NULL;
+}
+
+/* Drops, of what comes to a socket, replies with one question and no error, whose header says that of a query too. What the filter reads
+ * begins with the header of UDP, of 8 octets. */
+static void count_replies(int s) {
+    struct sock_filter code[] = {
+        /* the octets of the flags: opcode 0, RD set, RCODE 0; QR isn't looked at, since the plain server sends the query back */
+        BPF_STMT(BPF_LD | BPF_H | BPF_ABS, 8 + 2),
+        BPF_STMT(BPF_ALU | BPF_AND | BPF_K, 0x790f),
+        BPF_JUMP(BPF_JMP | BPF_JEQ | BPF_K, 0x0100, 0, 3),
+        /* QDCOUNT */
+        BPF_STMT(BPF_LD | BPF_H | BPF_ABS, 8 + 4),
+        BPF_JUMP(BPF_JMP | BPF_JEQ | BPF_K, 1, 0, 1),
+        BPF_STMT(BPF_RET | BPF_K, 0),
+        BPF_STMT(BPF_RET | BPF_K, 0xffff),
+    };
+    struct sock_fprog program = {.len = sizeof code / sizeof *code, .filter = code};
+    if (setsockopt(s, SOL_SOCKET, SO_ATTACH_FILTER, &program, sizeof program) < 0) stop("SO_ATTACH_FILTER");
 }
 
 static int joined(int port) {
@@ -177,6 +201,7 @@ static int joined(int port) {
     struct sockaddr_in a = at(port);
     if (s < 0 || connect(s, (struct sockaddr *)&a, sizeof a) < 0) stop("connect");
     if (setsockopt(s, IPPROTO_UDP, UDP_SEGMENT, &size, sizeof size) < 0) stop("UDP_SEGMENT");
+    count_replies(s);
     return s;
 }
 
