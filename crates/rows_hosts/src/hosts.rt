@@ -3,6 +3,7 @@
 ghost use Rattle.std.specs.Prelude.{◌≡◌, IfOk};
 ghost use Rattle.std.specs.Arc.{arc_value};
 
+use crate::with_workers;
 use dns_book::{Book, BookSeat, BookState};
 use dns_middleware::{Notifiable, Settings, Wrapped};
 use dns_name::{OptRcode, OutOfMemory};
@@ -76,7 +77,7 @@ fn was_sent(sent: &[Packet], wanted: Option<&[u8]>) -> bool {
 
 /// What a host is given, and what is wanted of it.
 #[derive(Clone, Copy)]
-struct HostCase<'a> {
+pub(crate) struct HostCase<'a> {
     /// A link comes for each of these queries.
     queries: &'a [&'a [u8]],
     datagrams: &'a [&'a [u8]],
@@ -88,7 +89,7 @@ struct HostCase<'a> {
     /// Whether the service answers that the name isn't there, and whether a poll of the first query is held.
     is_missing: bool,
     is_held: bool,
-    count: u64,
+    pub(crate) count: u64,
     status: Status,
     /// The octets written on each link, which is handed to no hook and closed once.
     shown: &'a [(&'a [u8], u64)],
@@ -98,15 +99,15 @@ struct HostCase<'a> {
 
 /// What a host is given beside its links: a socket, the starts that fail, a service, and what is told of changed zones.
 #[derive(Drop)]
-struct Given<S, N> {
-    sock: MemorySock,
-    failed_starts: Vec<u64>,
-    service: S,
-    target: N,
+pub(crate) struct Given<S, N> {
+    pub(crate) sock: MemorySock,
+    pub(crate) failed_starts: Vec<u64>,
+    pub(crate) service: S,
+    pub(crate) target: N,
 }
 
 /// The work of a connection by a service and a target in layers.
-type Connection<L, S, N> = ConnectionWork<
+pub(crate) type Connection<L, S, N> = ConnectionWork<
     Witness<L>,
     WitnessClock<MemoryClock>,
     Silent,
@@ -157,7 +158,7 @@ impl HostCase<'_> {
     }
 
     /// Whether the host ended so, with no slot taken and this datagram sent.
-    fn is_ended(&self, end: (Status, u64), sent: &[Packet]) -> bool {
+    pub(crate) fn is_ended(&self, end: (Status, u64), sent: &[Packet]) -> bool {
         end == (self.status, 0) && was_sent(sent, self.sent)
     }
 }
@@ -195,7 +196,7 @@ where
 }
 
 /// An open book with ten slots, whose connections may be idle for 5 s, and its first seat.
-fn host_book(alloc: Global) -> Result<(Arc<Book>, BookSeat), OutOfMemory>
+pub(crate) fn host_book(alloc: Global) -> Result<(Arc<Book>, BookSeat), OutOfMemory>
     ensures { IfOk result (λ r. r.1.book ≡ arc_value r.0) }
 {
     let mut connection = ConnectionConfig::new();
@@ -296,16 +297,23 @@ where
     host_ends(rt, alloc, case, host, service, target)
 }
 
-/// Whether a host with a link for each query ends as is wanted.
+/// Whether a host with a link for each query, or one with a worker, ends as is wanted.
 fn ends<R: Threads + Wait + Copy + Send + Sync + Drop + 'static>(
     rt: &R,
     alloc: Global,
     case: &HostCase<'_>,
+    by_worker: bool,
     given: Given<Holding, ScriptTarget>,
     seen: &mut Vec<Arc<Seen>>,
 ) -> bool {
     match accept_of(*rt, alloc, case.queries, case.failed_accepts, &[], seen) {
-        Ok(accept) => ends_over(rt, alloc, case, accept, given),
+        Ok(accept) => {
+            if by_worker {
+                with_workers::ends_over(rt, alloc, case, accept, given)
+            } else {
+                ends_over(rt, alloc, case, accept, given)
+            }
+        }
         Err(_) => false,
     }
 }
@@ -315,10 +323,11 @@ fn is_shown<R: Threads + Wait + Copy + Send + Sync + Drop + 'static>(
     rt: &R,
     alloc: Global,
     case: &HostCase<'_>,
+    by_worker: bool,
     given: Given<Holding, ScriptTarget>,
 ) -> bool {
     let mut seen = Vec::new(alloc);
-    ends(rt, alloc, case, given, &mut seen) && show(rt, &seen, case.shown, 1)
+    ends(rt, alloc, case, by_worker, given, &mut seen) && show(rt, &seen, case.shown, 1)
 }
 
 /// Whether it does of what the case says.
@@ -326,9 +335,10 @@ fn is_served<R: Threads + Wait + Copy + Send + Sync + Drop + 'static>(
     rt: &R,
     alloc: Global,
     case: &HostCase<'_>,
+    by_worker: bool,
 ) -> bool {
     match case.given(alloc) {
-        Ok(given) => is_shown(rt, alloc, case, given),
+        Ok(given) => is_shown(rt, alloc, case, by_worker, given),
         Err(_) => false,
     }
 }
@@ -434,9 +444,10 @@ fn all_hold<R: Threads + Wait + Copy + Send + Sync + Drop + 'static>(
     rt: &R,
     alloc: Global,
     cases: &[(&'static str, HostCase<'_>)],
+    by_worker: bool,
 ) -> Result<(), &'static str> {
     for (name, case) in cases {
-        if !is_served(rt, alloc, case) {
+        if !is_served(rt, alloc, case, by_worker) {
             return Err(name);
         }
     }
@@ -446,5 +457,11 @@ fn all_hold<R: Threads + Wait + Copy + Send + Sync + Drop + 'static>(
 /// Each host ends as is wanted of it.
 #[test]
 fn each_case_is_served(rt: HostRuntime) -> Result<(), &'static str> {
-    all_hold(&rt, rt.alloc(), CASES)
+    all_hold(&rt, rt.alloc(), CASES, false)
+}
+
+/// And so does each with a worker.
+#[test]
+fn each_case_is_served_by_a_worker(rt: HostRuntime) -> Result<(), &'static str> {
+    all_hold(&rt, rt.alloc(), CASES, true)
 }
