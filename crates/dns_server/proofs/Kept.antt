@@ -1,5 +1,5 @@
 -- Servers and workers over witnesses keep to the rules.
-use Rattle.std.proofs.Common.{◌≡◌, ◌⊎◌, inl, inr, ℕ, List}
+use Rattle.std.proofs.Common.{◌≡◌, inl, inr, ℕ, List}
 use Rattle.std.specs.Prelude.{slice_index_or}
 use Rattle.dns_name.specs.declared.address.SocketAddr.{SocketAddr}
 use Rattle.dns_events.specs.declared.event.Event.{Event}
