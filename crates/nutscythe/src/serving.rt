@@ -6,14 +6,14 @@ ghost use Rattle.std.specs.Prelude.{◌≡◌, IfOk};
 use dns_middleware::Notifiable;
 use dns_name::{IpAddr, OutOfMemory, SocketAddr};
 use dns_outside::{
-    AsyncAccept, AsyncDgramSock, Clock, HostClock, MioAccept, MioSock, Spawner, ThreadSpawner,
+    AsyncAccept, AsyncDgramSock, Clock, HostClock, Link, MioAccept, MioSock, Spawner, ThreadSpawner,
 };
 use dns_server::{
     Book, BookSeat, BookState, ConnectionWork, ServePlan, Settings, Silent, Status, WithoutMeta,
     Witness, WitnessAccept, WitnessClock, WitnessSock, WitnessSpawner, Worker, WorkersHost,
     Wrapped, serve_workers_over,
 };
-use dns_service::Service;
+use dns_service::{Service, SharedService};
 use std::alloc::Global;
 use std::net::Net;
 use std::sync::{Arc, Wait};
@@ -141,6 +141,19 @@ where
     }
 }
 
+/// Gives each connection over such a link, by such a clock and service, a thread of its own.
+fn spawner_over<
+    L: Link + Send + Drop + 'static,
+    C: Clock + Send + Drop + 'static,
+    T: SharedService + Send + Sync + 'static,
+>(alloc: Global) -> ThreadSpawner<ConnectionWork<L, C, Silent, T>>
+where
+    T::Future: Send,
+    T::Stream: Send,
+{
+    ThreadSpawner::new(alloc)
+}
+
 /// Serves over sockets that are open, with a thread for each connection, through witnesses of all of them.
 fn serve_over<
     R: Threads + Wait + Copy + Send + Sync + 'static,
@@ -164,7 +177,7 @@ where
     N::Future: Send,
     requires { S.can_call planned.service }
 {
-    let spawner: ThreadSpawner<Connection<A::Link, C, S, N>> = ThreadSpawner::new(alloc);
+    let spawner: ThreadSpawner<Connection<A::Link, C, S, N>> = spawner_over(alloc);
     let machine = WorkersHost {
         accept: WitnessAccept::new(accept),
         workers,

@@ -7,12 +7,16 @@ use crate::with_workers;
 use dns_book::{Book, BookSeat, BookState};
 use dns_middleware::{Notifiable, Settings, Wrapped};
 use dns_name::{OptRcode, OutOfMemory};
-use dns_outside::{AsyncAccept, MemoryClock, MemorySock, MemorySpawner, Packet, Spawner};
+use dns_outside::{
+    AsyncAccept, Clock, Link, MemoryClock, MemorySock, MemorySpawner, Packet, Spawner,
+};
 use dns_server::{
     NotifyRules, ScriptTarget, Status, Witness, WitnessAccept, WitnessClock, WitnessSock,
     WitnessSpawner, serve_host_over,
 };
-use dns_service::{ConnectionConfig, DgramConfig, Service, StreamConfig, WithoutMeta};
+use dns_service::{
+    ConnectionConfig, DgramConfig, Service, SharedService, StreamConfig, WithoutMeta,
+};
 use dns_transport::{ConnectionWork, Host, Silent};
 use rows_links::{Holding, Seen, accept_of, calls, clock, packet, show};
 use std::alloc::Global;
@@ -263,6 +267,35 @@ where
     case.is_ended(end, sock.into_inner().sent())
 }
 
+/// A spawner in memory of the work of connections over such a link, by such a clock and service. These starts fail.
+fn spawner_over<
+    L: Link + Send + Drop + 'static,
+    C: Clock + Send + Drop + 'static,
+    T: SharedService + Send + Sync + 'static,
+>(alloc: Global, failing: Vec<u64>) -> MemorySpawner<ConnectionWork<L, C, Silent, T>>
+where
+    T::Future: Send,
+    T::Stream: Send,
+{
+    MemorySpawner::new(alloc, failing)
+}
+
+/// Such a spawner of work over witnesses of the link and the clock.
+pub(crate) fn spawner_over_witnesses<
+    L: Link + Send + Drop + 'static,
+    C: Clock + Send + Drop + 'static,
+    T: SharedService + Send + Sync + 'static,
+>(
+    alloc: Global,
+    failing: Vec<u64>,
+) -> MemorySpawner<ConnectionWork<Witness<L>, WitnessClock<C>, Silent, T>>
+where
+    T::Future: Send,
+    T::Stream: Send,
+{
+    spawner_over(alloc, failing)
+}
+
 /// Whether a host with this accept object ends as is wanted.
 fn ends_over<
     R: Threads + Wait + Copy + Send + Sync + 'static,
@@ -283,7 +316,7 @@ where
         service,
         target,
     } = given;
-    let spawner: MemorySpawner<Connection<A::Link, S, N>> = MemorySpawner::new(
+    let spawner: MemorySpawner<Connection<A::Link, S, N>> = spawner_over_witnesses(
         alloc,
         failed_starts,
     );

@@ -3,7 +3,7 @@
 ghost use Rattle.std.specs.Prelude.{◌≡◌};
 ghost use Rattle.std.specs.Arc.{arc_value};
 
-use crate::hosts::{Connection, Given, HostCase, host_book};
+use crate::hosts::{Connection, Given, HostCase, host_book, spawner_over_witnesses};
 use dns_book::{Book, BookSeat};
 use dns_middleware::{Notifiable, Settings};
 use dns_outside::{AsyncAccept, MemoryClock, MemorySock, MemorySpawner, Spawner};
@@ -137,7 +137,7 @@ where
         service,
         target,
     } = given;
-    let spawner: MemorySpawner<Connection<A::Link, S, N>> = MemorySpawner::new(
+    let spawner: MemorySpawner<Connection<A::Link, S, N>> = spawner_over_witnesses(
         alloc,
         failed_starts,
     );
