@@ -1,3 +1,4 @@
 pub mod Hosted
+pub mod Kept
 pub mod Noted
 pub mod Replayed

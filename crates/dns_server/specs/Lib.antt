@@ -29,5 +29,6 @@ pub use Rattle.dns_service.specs.Transport
 pub use Rattle.dns_trace.specs.EventLines
 pub use Rattle.dns_trace.specs.Reading
 pub mod HostStatus
+pub mod OverWitnesses
 pub mod Recorded
 pub mod Replays

@@ -3,6 +3,9 @@
 //!
 //! - `serve_host` serves datagrams and connections over any socket and listener, with a service in the layers of its
 //!   settings.
+//! - `serve_workers` serves datagrams by several workers, each from a socket of its own, and connections beside them.
+//! - `serve_host_over` and `serve_workers_over` do so over witnesses, which tell what the calls of the machine's sockets
+//!   answered. `run_dgram_server_over` and `run_stream_server_over` run servers over witnesses.
 //! - `serve_plan` reads the words and the script of a server, and `run` the others (both of dns_run).
 //! - `TraceRecorder` is a recorder whose text reads back.
 //!
@@ -10,6 +13,9 @@
 //!
 //! - `serve_host` promises what `host_service` promises of the wrapped service, and answers Done, OutOfMemory or
 //!   HostFault.
+//! - `serve_workers` promises of the wrapped service what `WorkersHost::serve` promises, and answers so too.
+//! - Over witnesses all this holds, of the machine's sockets too: each datagram, and each connection of a host or a
+//!   server, kept to the rules (`HostKept`, `WorkersKept`, `ServerKept`, `every_counted_connection_kept_to_the_rules`).
 //! - The text of a `TraceRecorder` is the trace of its settings and of the events that were noted, and reads back to
 //!   both.
 //! - A connection was served over a link that contracts know. Its text reads back to events for which the model sends
@@ -23,7 +29,9 @@
 mod host_status;
 mod in_range;
 mod laws;
+mod over_witnesses;
 mod server_host;
+mod server_workers;
 mod trace_recorder;
 
 pub use dns_book::{Book, BookSeat};
@@ -45,7 +53,14 @@ pub use dns_transport::{
     ServerMetrics, Silent, StreamEnd, StreamServer, TcpServer, UdpServer, VecBufSource,
     VecRecorder, host_service, serve_accepts, serve_connection, serve_datagrams,
 };
+pub use dns_witness::{Witness, WitnessAccept, WitnessClock, WitnessSock, WitnessSpawner};
+pub use dns_workers::{Worker, WorkersHost};
 pub use host_status::status_of_host;
 pub use laws::a_connection_replays;
+pub use over_witnesses::{
+    every_counted_connection_kept_to_the_rules, run_dgram_server_over, run_stream_server_over,
+    serve_host_over, serve_workers_over,
+};
 pub use server_host::serve_host;
+pub use server_workers::serve_workers;
 pub use trace_recorder::TraceRecorder;

@@ -22,7 +22,7 @@ use std::sync::{Arc, Wait};
 use std::thread::Threads;
 
 /// A host's end as a status, beside the seat.
-fn by_status(served: (BookSeat, HostEnd)) -> (BookSeat, Status)
+pub(crate) fn by_status(served: (BookSeat, HostEnd)) -> (BookSeat, Status)
     ensures seat { result.0 ≡ served.0 }
     ensures status { result.1 ≡ status_of_host served.1 }
 {
@@ -31,7 +31,7 @@ fn by_status(served: (BookSeat, HostEnd)) -> (BookSeat, Status)
 }
 
 /// Shuts the book down for want of memory.
-fn without_memory<R: Wait>(rt: &R, book: &Book, seat: BookSeat) -> (BookSeat, Status)
+pub(crate) fn without_memory<R: Wait>(rt: &R, book: &Book, seat: BookSeat) -> (BookSeat, Status)
     requires { seat.book ≡ book.now }
     ensures shut { ShutDown seat.known result.0.known }
     ensures same { result.0.book ≡ seat.book }

@@ -1,7 +1,8 @@
 //! The program: a script on standard input, its outputs or its text on standard output, or a server that runs by it.
 //!
-//! `main` looks at the first word. `serve` hands the plan of `serve_plan` to `serve_host`, over the machine's sockets,
-//! clock and threads; everything else goes to `run`. It is tested by its stored run, by tools/door and by tools/memory.
+//! `main` looks at the first word. `serve` hands the plan of `serve_plan` to `serve_workers_over`, over witnesses of the
+//! machine's sockets, clock and threads, with a worker on each processor where no count is given. Everything else goes to
+//! `run`. It is tested by its stored run, by tools/door, by tools/memory and by bench/workers.
 #![tactic(auto)]
 
 mod serving;
@@ -23,7 +24,8 @@ serve ADDR PORT COUNT < SCRIPT, --help, --version. replay serves a script's
 events, a line for each output; in steps a client hears of changes only at its
 lines look AT SECS CLIENT; trace writes the script; cache keeps CAP replies of
 rules for its lines ask AT SECS ADDR PORT HEX; serve answers at a port until
-COUNT datagrams and COUNT connections came, 0: ever; flood makes COUNT events.
+COUNT datagrams and COUNT connections came, 0: ever, and then with a worker on
+each processor for datagrams; flood makes COUNT events.
 strict yes|no, edns yes|no   settings, once; secret HEX   of cookies; deny ADDR
 dgram none|SIZE WRITE, stream IDLE WRITE QUEUE LIMIT yes|no   the two servers
 budget none|COUNT WINDOW   how many replies a connection queues in WINDOW ms

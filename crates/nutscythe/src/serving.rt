@@ -4,24 +4,40 @@ ghost use Rattle.std.specs.Arc.{arc_value};
 ghost use Rattle.std.specs.Prelude.{◌≡◌, IfOk};
 
 use dns_middleware::Notifiable;
-use dns_name::{OutOfMemory, SocketAddr};
+use dns_name::{IpAddr, OutOfMemory, SocketAddr};
 use dns_outside::{
-    AsyncAccept, AsyncDgramSock, Clock, HostClock, MioAccept, MioSock, Spawner, ThreadSpawner,
+    AsyncAccept, AsyncDgramSock, Clock, HostClock, Link, MioAccept, MioSock, Spawner, ThreadSpawner,
 };
 use dns_server::{
-    Book, BookSeat, BookState, ConnectionWork, Host, ServePlan, Settings, Silent, Status,
-    WithoutMeta, Wrapped, serve_host,
+    Book, BookSeat, BookState, ConnectionWork, ServePlan, Settings, Silent, Status, WithoutMeta,
+    Witness, WitnessAccept, WitnessClock, WitnessSock, WitnessSpawner, Worker, WorkersHost,
+    Wrapped, serve_workers_over,
 };
-use dns_service::Service;
+use dns_service::{Service, SharedService};
 use std::alloc::Global;
 use std::net::Net;
 use std::sync::{Arc, Wait};
-use std::thread::Threads;
+use std::thread::{Threads, available_parallelism};
 use std::{io, rt};
 
-/// What serves the connections of a service and a target in layers, each in a thread of its own.
-type Connections<L, C, S, N> = ThreadSpawner<
-    ConnectionWork<L, C, Silent, WithoutMeta<Wrapped<S, N>>>,
+/// The work of a connection by a service and a target in layers, over witnesses of its link and its clock.
+type Connection<L, C, S, N> = ConnectionWork<
+    Witness<L>,
+    WitnessClock<C>,
+    Silent,
+    WithoutMeta<Wrapped<S, N>>,
+>;
+
+/// A worker over witnesses of its socket and its clock.
+type Witnessed<D, C> = Worker<WitnessSock<D>, WitnessClock<C>, Silent>;
+
+/// A host over witnesses, for proofs to know what their calls answered. They take no memory and no time.
+type Machine<A, D, C, P> = WorkersHost<
+    WitnessAccept<A>,
+    WitnessSock<D>,
+    WitnessClock<C>,
+    WitnessSpawner<P>,
+    Silent,
 >;
 
 /// What is served, in the layers of the settings: a service, and what is told of changed zones; and after how many connections and
@@ -62,14 +78,15 @@ fn serve_book<
     C: Clock + Send + Drop + 'static,
     S: Service<()> + Send + Sync + 'static,
     N: Notifiable + Send + Sync + 'static,
-    P: Spawner<ConnectionWork<A::Link, C, Silent, WithoutMeta<Wrapped<S, N>>>> + Drop,
+    P: Spawner<Connection<A::Link, C, S, N>> + Drop,
 >(
     rt: &R,
     alloc: Global,
     planned: Planned<S, N>,
+    clock: &WitnessClock<C>,
     book: &Arc<Book>,
     seat: BookSeat,
-    mut machine: Host<A, D, C, P, Silent>,
+    mut machine: Machine<A, D, C, P>,
 ) -> Status
 where
     A::Link: Send + Drop + 'static,
@@ -85,12 +102,13 @@ where
         service,
         target,
     } = planned;
-    let (_seat, status) = serve_host(
+    let (_seat, status) = serve_workers_over(
         rt,
         alloc,
         &settings,
         service,
         target,
+        clock,
         book,
         seat,
         &mut machine,
@@ -99,7 +117,7 @@ where
     status
 }
 
-/// Opens a book of the settings, and serves over the accept object, the socket and the clock of `machine`.
+/// Opens a book of the settings, and serves over a machine that is open. The clocks of connections are made of the one given here.
 fn serve_machine<
     R: Threads + Wait + Copy + Send + Sync + 'static,
     A: AsyncAccept + Drop,
@@ -107,8 +125,8 @@ fn serve_machine<
     C: Clock + Send + Drop + 'static,
     S: Service<()> + Send + Sync + 'static,
     N: Notifiable + Send + Sync + 'static,
-    P: Spawner<ConnectionWork<A::Link, C, Silent, WithoutMeta<Wrapped<S, N>>>> + Drop,
->(rt: &R, alloc: Global, planned: Planned<S, N>, machine: Host<A, D, C, P, Silent>) -> Status
+    P: Spawner<Connection<A::Link, C, S, N>> + Drop,
+>(rt: &R, alloc: Global, planned: Planned<S, N>, clock: C, machine: Machine<A, D, C, P>) -> Status
 where
     A::Link: Send + Drop + 'static,
     S::Future: Send,
@@ -116,13 +134,27 @@ where
     N::Future: Send,
     requires { S.can_call planned.service }
 {
+    let clock = WitnessClock::new(clock);
     match open_book(alloc, &planned.settings) {
-        Ok((book, seat)) => serve_book(rt, alloc, planned, &book, seat, machine),
+        Ok((book, seat)) => serve_book(rt, alloc, planned, &clock, &book, seat, machine),
         Err(OutOfMemory) => Status::OutOfMemory,
     }
 }
 
-/// Serves over sockets that are open, with a thread for each connection.
+/// Gives each connection over such a link, by such a clock and service, a thread of its own.
+fn spawner_over<
+    L: Link + Send + Drop + 'static,
+    C: Clock + Send + Drop + 'static,
+    T: SharedService + Send + Sync + 'static,
+>(alloc: Global) -> ThreadSpawner<ConnectionWork<L, C, Silent, T>>
+where
+    T::Future: Send,
+    T::Stream: Send,
+{
+    ThreadSpawner::new(alloc)
+}
+
+/// Serves over sockets that are open, with a thread for each connection, through witnesses of all of them.
 fn serve_over<
     R: Threads + Wait + Copy + Send + Sync + 'static,
     A: AsyncAccept + Drop,
@@ -130,7 +162,14 @@ fn serve_over<
     C: Clock + Send + Drop + 'static,
     S: Service<()> + Send + Sync + 'static,
     N: Notifiable + Send + Sync + 'static,
->(rt: R, alloc: Global, planned: Planned<S, N>, accept: A, sock: D, clock: C) -> Status
+>(
+    rt: R,
+    alloc: Global,
+    planned: Planned<S, N>,
+    accept: A,
+    workers: Vec<Witnessed<D, C>>,
+    clock: C,
+) -> Status
 where
     A::Link: Send + Drop + 'static,
     S::Future: Send,
@@ -138,34 +177,75 @@ where
     N::Future: Send,
     requires { S.can_call planned.service }
 {
-    let spawner: Connections<A::Link, C, S, N> = ThreadSpawner::new(alloc);
-    let machine = Host {
-        accept,
-        sock,
-        clock,
-        spawner,
-        journal: Silent::new(),
+    let spawner: ThreadSpawner<Connection<A::Link, C, S, N>> = spawner_over(alloc);
+    let machine = WorkersHost {
+        accept: WitnessAccept::new(accept),
+        workers,
+        spawner: WitnessSpawner::new(spawner),
     };
-    serve_machine(&rt, alloc, planned, machine)
+    serve_machine(&rt, alloc, planned, clock, machine)
 }
 
-/// Opens the socket of datagrams beside that of connections, and serves over both.
-fn serve_beside<
-    R: Net + rt::Clock + Threads + Wait + Copy + Send + Sync + 'static,
-    A: AsyncAccept + Drop,
-    S: Service<()> + Send + Sync + 'static,
-    N: Notifiable + Send + Sync + 'static,
->(rt: R, alloc: Global, addr: SocketAddr, planned: Planned<S, N>, accept: A) -> Status
-where
-    A::Link: Send + Drop + 'static,
-    S::Future: Send,
-    S::Stream: Send,
-    N::Future: Send,
-    requires { S.can_call planned.service }
-{
-    match MioSock::bind(&rt, addr) {
-        Ok(sock) => serve_over(rt, alloc, planned, accept, sock, HostClock::new(rt)),
-        Err(error) => unopened(error),
+/// A worker that serves datagrams from this socket, by the machine's clock.
+fn worker<R: rt::Clock + Copy>(rt: R, sock: MioSock) -> Witnessed<MioSock, HostClock<R>> {
+    Worker::new(
+        WitnessSock::new(sock),
+        WitnessClock::new(HostClock::new(rt)),
+        Silent::new(),
+    )
+}
+
+/// One worker, whose socket has the address for itself.
+fn open_one<R: Net + rt::Clock + Copy>(
+    rt: R,
+    alloc: Global,
+    addr: SocketAddr,
+) -> io::Result<Vec<Witnessed<MioSock, HostClock<R>>>> {
+    let mut workers = Vec::new(alloc);
+    workers.push(worker(rt, MioSock::bind(&rt, addr)?))?;
+    Ok(workers)
+}
+
+/// So many workers, at least one, whose sockets share the address; at port 0 the system picks the port.
+fn open_several<R: Net + rt::Clock + Copy>(
+    rt: R,
+    alloc: Global,
+    addr: SocketAddr,
+    count: usize,
+) -> io::Result<Vec<Witnessed<MioSock, HostClock<R>>>> {
+    let first = MioSock::bind_shared(&rt, addr)?;
+    let port = first.local_addr()?.port;
+    let mut workers = Vec::new(alloc);
+    workers.push(worker(rt, first))?;
+    for _ in 1..count {
+        let sock = MioSock::bind_shared(&rt, SocketAddr { port, ..addr })?;
+        workers.push(worker(rt, sock))?;
+    }
+    Ok(workers)
+}
+
+/// How many workers serve datagrams: one where the server is to end after a count, or where one socket takes datagrams over IPv4
+/// and IPv6; else one a processor.
+fn worker_count(rt: &impl Threads, addr: SocketAddr, count: u64) -> usize {
+    if count != 0 || addr.ip == IpAddr::V6([0; 16]) {
+        return 1;
+    }
+    match available_parallelism(rt) {
+        Ok(processors) => processors.get(),
+        Err(_) => 1,
+    }
+}
+
+/// The workers that serve datagrams at an address, each with a socket of its own.
+fn open_workers<R: Net + rt::Clock + Threads + Copy>(
+    rt: R,
+    alloc: Global,
+    addr: SocketAddr,
+    count: u64,
+) -> io::Result<Vec<Witnessed<MioSock, HostClock<R>>>> {
+    match worker_count(&rt, addr, count) {
+        1 => open_one(rt, alloc, addr),
+        workers => open_several(rt, alloc, addr, workers),
     }
 }
 
@@ -189,8 +269,12 @@ pub(crate) fn serve<R: Net + rt::Clock + Threads + Wait + Copy + Send + Sync + '
         service,
         target,
     };
-    match MioAccept::bind(&rt, addr) {
-        Ok(accept) => serve_beside(rt, alloc, addr, planned, accept),
+    let accept = match MioAccept::bind(&rt, addr) {
+        Ok(accept) => accept,
+        Err(error) => return unopened(error),
+    };
+    match open_workers(rt, alloc, addr, count) {
+        Ok(workers) => serve_over(rt, alloc, planned, accept, workers, HostClock::new(rt)),
         Err(error) => unopened(error),
     }
 }

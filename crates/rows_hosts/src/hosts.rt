@@ -1,16 +1,24 @@
 //! Whole hosts, whose service stands in all layers.
 
-ghost use Rattle.std.specs.Prelude.{◌≡◌};
+ghost use Rattle.std.specs.Prelude.{◌≡◌, IfOk};
 ghost use Rattle.std.specs.Arc.{arc_value};
 
-use dns_book::{Book, BookSeat};
+use crate::with_workers;
+use dns_book::{Book, BookSeat, BookState};
 use dns_middleware::{Notifiable, Settings, Wrapped};
 use dns_name::{OptRcode, OutOfMemory};
-use dns_outside::{AsyncAccept, MemoryClock, MemorySock, MemorySpawner, Packet, Spawner};
-use dns_server::{NotifyRules, ScriptTarget, Status, serve_host};
-use dns_service::{Service, WithoutMeta};
+use dns_outside::{
+    AsyncAccept, Clock, Link, MemoryClock, MemorySock, MemorySpawner, Packet, Spawner,
+};
+use dns_server::{
+    NotifyRules, ScriptTarget, Status, Witness, WitnessAccept, WitnessClock, WitnessSock,
+    WitnessSpawner, serve_host_over,
+};
+use dns_service::{
+    ConnectionConfig, DgramConfig, Service, SharedService, StreamConfig, WithoutMeta,
+};
 use dns_transport::{ConnectionWork, Host, Silent};
-use rows_links::{Holding, Seen, accept_of, book_of, calls, clock, packet, show};
+use rows_links::{Holding, Seen, accept_of, calls, clock, packet, show};
 use std::alloc::Global;
 use std::sync::{Arc, Wait};
 use std::thread::Threads;
@@ -44,15 +52,15 @@ const REPLY: &[u8] = b"\x12\x34\x81\x00\x00\x01\x00\x00\x00\x00\x00\x00\x00\x00\
 const NO_NAME: &[u8] = b"\x12\x34\x81\x03\x00\x01\x00\x00\x00\x00\x00\x00\x00\x00\x01\x00\x01";
 
 /// A query with an OPT record behind its length, and such replies, which say after how many units of 100 ms an idle connection is
-/// closed (RFC 7828).
+/// closed (RFC 7828): by the look at which the connection was admitted, 5 s.
 const FRAME: &[u8] =
     b"\x00\x1c\x12\x34\x01\x00\x00\x01\x00\x00\x00\x00\x00\x01\x00\x00\x01\x00\x01\x00\x00\x29\x00\x00\x00\x00\x00\x00\x00\x00";
 
 const REPLY_FRAME: &[u8] =
-    b"\x00\x22\x12\x34\x81\x00\x00\x01\x00\x00\x00\x00\x00\x01\x00\x00\x01\x00\x01\x00\x00\x29\x00\x00\x00\x00\x00\x00\x00\x06\x00\x0b\x00\x02\x01\x2c";
+    b"\x00\x22\x12\x34\x81\x00\x00\x01\x00\x00\x00\x00\x00\x01\x00\x00\x01\x00\x01\x00\x00\x29\x00\x00\x00\x00\x00\x00\x00\x06\x00\x0b\x00\x02\x00\x32";
 
 const NO_NAME_FRAME: &[u8] =
-    b"\x00\x22\x12\x34\x81\x03\x00\x01\x00\x00\x00\x00\x00\x01\x00\x00\x01\x00\x01\x00\x00\x29\x00\x00\x00\x00\x00\x00\x00\x06\x00\x0b\x00\x02\x01\x2c";
+    b"\x00\x22\x12\x34\x81\x03\x00\x01\x00\x00\x00\x00\x00\x01\x00\x00\x01\x00\x01\x00\x00\x29\x00\x00\x00\x00\x00\x00\x00\x06\x00\x0b\x00\x02\x00\x32";
 
 /// Datagrams of these octets.
 fn packets(alloc: Global, datagrams: &[&[u8]]) -> Result<Vec<Packet>, OutOfMemory> {
@@ -73,7 +81,7 @@ fn was_sent(sent: &[Packet], wanted: Option<&[u8]>) -> bool {
 
 /// What a host is given, and what is wanted of it.
 #[derive(Clone, Copy)]
-struct HostCase<'a> {
+pub(crate) struct HostCase<'a> {
     /// A link comes for each of these queries.
     queries: &'a [&'a [u8]],
     datagrams: &'a [&'a [u8]],
@@ -85,7 +93,7 @@ struct HostCase<'a> {
     /// Whether the service answers that the name isn't there, and whether a poll of the first query is held.
     is_missing: bool,
     is_held: bool,
-    count: u64,
+    pub(crate) count: u64,
     status: Status,
     /// The octets written on each link, which is handed to no hook and closed once.
     shown: &'a [(&'a [u8], u64)],
@@ -95,16 +103,28 @@ struct HostCase<'a> {
 
 /// What a host is given beside its links: a socket, the starts that fail, a service, and what is told of changed zones.
 #[derive(Drop)]
-struct Given<S, N> {
-    sock: MemorySock,
-    failed_starts: Vec<u64>,
-    service: S,
-    target: N,
+pub(crate) struct Given<S, N> {
+    pub(crate) sock: MemorySock,
+    pub(crate) failed_starts: Vec<u64>,
+    pub(crate) service: S,
+    pub(crate) target: N,
 }
 
-/// What serves the connections of a service and a target in layers.
-type Connections<L, S, N> = MemorySpawner<
-    ConnectionWork<L, MemoryClock, Silent, WithoutMeta<Wrapped<S, N>>>,
+/// The work of a connection by a service and a target in layers.
+pub(crate) type Connection<L, S, N> = ConnectionWork<
+    Witness<L>,
+    WitnessClock<MemoryClock>,
+    Silent,
+    WithoutMeta<Wrapped<S, N>>,
+>;
+
+/// A host over witnesses of objects in memory.
+type Witnessed<A, P> = Host<
+    WitnessAccept<A>,
+    WitnessSock<MemorySock>,
+    WitnessClock<MemoryClock>,
+    WitnessSpawner<P>,
+    Silent,
 >;
 
 impl HostCase<'_> {
@@ -142,7 +162,7 @@ impl HostCase<'_> {
     }
 
     /// Whether the host ended so, with no slot taken and this datagram sent.
-    fn is_ended(&self, end: (Status, u64), sent: &[Packet]) -> bool {
+    pub(crate) fn is_ended(&self, end: (Status, u64), sent: &[Packet]) -> bool {
         end == (self.status, 0) && was_sent(sent, self.sent)
     }
 }
@@ -153,11 +173,11 @@ fn end_in<
     A: AsyncAccept,
     S: Service<()> + Send + Sync + 'static,
     N: Notifiable + Send + Sync + 'static,
-    P: Spawner<ConnectionWork<A::Link, MemoryClock, Silent, WithoutMeta<Wrapped<S, N>>>>,
+    P: Spawner<Connection<A::Link, S, N>>,
 >(
     rt: &R,
     alloc: Global,
-    host: &mut Host<A, MemorySock, MemoryClock, P, Silent>,
+    host: &mut Witnessed<A, P>,
     service: S,
     target: N,
     book: &Arc<Book>,
@@ -173,10 +193,23 @@ where
     requires can_call { S.can_call service }
 {
     let settings = Settings::new(alloc);
-    let (mut seat, status) = serve_host(
+    let (mut seat, status) = serve_host_over(
         rt, alloc, &settings, service, target, book, seat, host, count,
     );
     (status, book.look(rt, &mut seat).taken)
+}
+
+/// An open book with ten slots, whose connections may be idle for 5 s, and its first seat.
+pub(crate) fn host_book(alloc: Global) -> Result<(Arc<Book>, BookSeat), OutOfMemory>
+    ensures { IfOk result (λ r. r.1.book ≡ arc_value r.0) }
+{
+    let mut connection = ConnectionConfig::new();
+    connection.set_idle_timeout(5_000);
+    let mut stream = StreamConfig::new();
+    stream.set_max_concurrent_connections(10);
+    stream.set_connection_config(connection);
+    let (book, seat) = Book::new(alloc, BookState::new(DgramConfig::new(), stream))?;
+    Ok((Arc::new(alloc, book)?, seat))
 }
 
 /// How a host ends in a new book with ten slots, and how many of them are taken then.
@@ -185,11 +218,11 @@ fn host_end<
     A: AsyncAccept,
     S: Service<()> + Send + Sync + 'static,
     N: Notifiable + Send + Sync + 'static,
-    P: Spawner<ConnectionWork<A::Link, MemoryClock, Silent, WithoutMeta<Wrapped<S, N>>>>,
+    P: Spawner<Connection<A::Link, S, N>>,
 >(
     rt: &R,
     alloc: Global,
-    host: &mut Host<A, MemorySock, MemoryClock, P, Silent>,
+    host: &mut Witnessed<A, P>,
     service: S,
     target: N,
     count: u64,
@@ -201,7 +234,7 @@ where
     N::Future: Send,
     requires { S.can_call service }
 {
-    match book_of(alloc, 10) {
+    match host_book(alloc) {
         Ok((book, seat)) => end_in(rt, alloc, host, service, target, &book, seat, count),
         Err(_) => (Status::OutOfMemory, 1),
     }
@@ -213,12 +246,12 @@ fn host_ends<
     A: AsyncAccept + Drop,
     S: Service<()> + Send + Sync + 'static,
     N: Notifiable + Send + Sync + 'static,
-    P: Spawner<ConnectionWork<A::Link, MemoryClock, Silent, WithoutMeta<Wrapped<S, N>>>> + Drop,
+    P: Spawner<Connection<A::Link, S, N>> + Drop,
 >(
     rt: &R,
     alloc: Global,
     case: &HostCase<'_>,
-    mut host: Host<A, MemorySock, MemoryClock, P, Silent>,
+    mut host: Witnessed<A, P>,
     service: S,
     target: N,
 ) -> bool
@@ -230,7 +263,37 @@ where
     requires { S.can_call service }
 {
     let end = host_end(rt, alloc, &mut host, service, target, case.count);
-    case.is_ended(end, host.sock.sent())
+    let Host { sock, .. } = host;
+    case.is_ended(end, sock.into_inner().sent())
+}
+
+/// A spawner in memory of the work of connections over such a link, by such a clock and service. These starts fail.
+fn spawner_over<
+    L: Link + Send + Drop + 'static,
+    C: Clock + Send + Drop + 'static,
+    T: SharedService + Send + Sync + 'static,
+>(alloc: Global, failing: Vec<u64>) -> MemorySpawner<ConnectionWork<L, C, Silent, T>>
+where
+    T::Future: Send,
+    T::Stream: Send,
+{
+    MemorySpawner::new(alloc, failing)
+}
+
+/// Such a spawner of work over witnesses of the link and the clock.
+pub(crate) fn spawner_over_witnesses<
+    L: Link + Send + Drop + 'static,
+    C: Clock + Send + Drop + 'static,
+    T: SharedService + Send + Sync + 'static,
+>(
+    alloc: Global,
+    failing: Vec<u64>,
+) -> MemorySpawner<ConnectionWork<Witness<L>, WitnessClock<C>, Silent, T>>
+where
+    T::Future: Send,
+    T::Stream: Send,
+{
+    spawner_over(alloc, failing)
 }
 
 /// Whether a host with this accept object ends as is wanted.
@@ -253,27 +316,37 @@ where
         service,
         target,
     } = given;
-    let spawner: Connections<A::Link, S, N> = MemorySpawner::new(alloc, failed_starts);
+    let spawner: MemorySpawner<Connection<A::Link, S, N>> = spawner_over_witnesses(
+        alloc,
+        failed_starts,
+    );
     let host = Host {
-        accept,
-        sock,
-        clock: clock(alloc),
-        spawner,
+        accept: WitnessAccept::new(accept),
+        sock: WitnessSock::new(sock),
+        clock: WitnessClock::new(clock(alloc)),
+        spawner: WitnessSpawner::new(spawner),
         journal: Silent::new(),
     };
     host_ends(rt, alloc, case, host, service, target)
 }
 
-/// Whether a host with a link for each query ends as is wanted.
+/// Whether a host with a link for each query, or one with a worker, ends as is wanted.
 fn ends<R: Threads + Wait + Copy + Send + Sync + Drop + 'static>(
     rt: &R,
     alloc: Global,
     case: &HostCase<'_>,
+    by_worker: bool,
     given: Given<Holding, ScriptTarget>,
     seen: &mut Vec<Arc<Seen>>,
 ) -> bool {
     match accept_of(*rt, alloc, case.queries, case.failed_accepts, &[], seen) {
-        Ok(accept) => ends_over(rt, alloc, case, accept, given),
+        Ok(accept) => {
+            if by_worker {
+                with_workers::ends_over(rt, alloc, case, accept, given)
+            } else {
+                ends_over(rt, alloc, case, accept, given)
+            }
+        }
         Err(_) => false,
     }
 }
@@ -283,10 +356,11 @@ fn is_shown<R: Threads + Wait + Copy + Send + Sync + Drop + 'static>(
     rt: &R,
     alloc: Global,
     case: &HostCase<'_>,
+    by_worker: bool,
     given: Given<Holding, ScriptTarget>,
 ) -> bool {
     let mut seen = Vec::new(alloc);
-    ends(rt, alloc, case, given, &mut seen) && show(rt, &seen, case.shown, 1)
+    ends(rt, alloc, case, by_worker, given, &mut seen) && show(rt, &seen, case.shown, 1)
 }
 
 /// Whether it does of what the case says.
@@ -294,9 +368,10 @@ fn is_served<R: Threads + Wait + Copy + Send + Sync + Drop + 'static>(
     rt: &R,
     alloc: Global,
     case: &HostCase<'_>,
+    by_worker: bool,
 ) -> bool {
     match case.given(alloc) {
-        Ok(given) => is_shown(rt, alloc, case, given),
+        Ok(given) => is_shown(rt, alloc, case, by_worker, given),
         Err(_) => false,
     }
 }
@@ -402,9 +477,10 @@ fn all_hold<R: Threads + Wait + Copy + Send + Sync + Drop + 'static>(
     rt: &R,
     alloc: Global,
     cases: &[(&'static str, HostCase<'_>)],
+    by_worker: bool,
 ) -> Result<(), &'static str> {
     for (name, case) in cases {
-        if !is_served(rt, alloc, case) {
+        if !is_served(rt, alloc, case, by_worker) {
             return Err(name);
         }
     }
@@ -414,5 +490,11 @@ fn all_hold<R: Threads + Wait + Copy + Send + Sync + Drop + 'static>(
 /// Each host ends as is wanted of it.
 #[test]
 fn each_case_is_served(rt: HostRuntime) -> Result<(), &'static str> {
-    all_hold(&rt, rt.alloc(), CASES)
+    all_hold(&rt, rt.alloc(), CASES, false)
+}
+
+/// And so does each with a worker.
+#[test]
+fn each_case_is_served_by_a_worker(rt: HostRuntime) -> Result<(), &'static str> {
+    all_hold(&rt, rt.alloc(), CASES, true)
 }
