@@ -32,7 +32,7 @@ impl<D> QuerySock<D> {
         }
     }
 
-    /// The other socket.
+    /// The socket whose queries are passed on.
     pub fn inner(&self) -> &D
         ensures { result.now ≡ self.now.inner }
     {

@@ -19,31 +19,48 @@ use std::thread::Threads;
 use std::{env, io, rt};
 
 const HELP: &str = "\
-Usage: nutscythe replay|steps|trace|cache CAP < SCRIPT, flood SEED COUNT,
-serve ADDR PORT COUNT < SCRIPT, --help, --version. replay serves a script's
-events, a line for each output; in steps a client hears of changes only at its
-lines look AT SECS CLIENT; trace writes the script; cache keeps CAP replies of
-rules for its lines ask AT SECS ADDR PORT HEX; serve answers at a port until
-COUNT datagrams and COUNT connections came, 0: ever, and then with a worker on
-each processor for datagrams; flood makes COUNT events.
-strict yes|no, edns yes|no   settings, once; secret HEX   of cookies; deny ADDR
-dgram none|SIZE WRITE, stream IDLE WRITE QUEUE LIMIT yes|no   the two servers
-budget none|COUNT WINDOW   how many replies a connection queues in WINDOW ms
-rule NAME|* ANSWER ..   a request's polls: pend, rcode:0 to 15, blank:0 to 15,
-    fill:LEN, opt:LEN, live:TTL, an error (formerr, servfail, notimp, refused),
-    or begin, end, idle:MS, alone or with + before one of the five replies; or
-upstream NAME WORD ..   its polls: pend, rcode:0 to 15, stray:0 to 15, late; or
-zone NAME, then record NAME TTL TYPE HEX; notify NAME pend .. ok|notauth|other
-datagram AT SECS CLIENT ADDR PORT HEX   a query; offer AT SECS CLIENT ADDR PORT
-    a connection; piece AT SECS CLIENT HEX   octets of its stream came
-turn AT SECS CLIENT REQUEST   a request, from number 0, is polled once; write
-    AT SECS CLIENT TOOK   its front frame is written, in TOOK ms; tick, end,
-    fault, close, release, each AT SECS CLIENT   of a connection
-reconfigure AT SECS .., shutdown AT SECS   all hear; as dgram, stream, budget
-What is above datagram stands before all events. ADDR is a dotted quad or 32 hex
-digits, HEX pairs of digits or -. docs/scripts.md has all. Exit status: 0 done,
-2 faulty command line, 3 refused, 4 a read or 5 a write failed, 6 out of memory,
-7 script too long, 8 socket or thread failed.
+Usage:
+  nutscythe replay < SCRIPT        serve a script's events, a line an output
+  nutscythe steps < SCRIPT         serve steps: clients hear of changes by looks
+  nutscythe trace < SCRIPT         write the script in one spelling
+  nutscythe cache CAP < SCRIPT     ask a cache of CAP replies in front of rules
+  nutscythe flood SEED COUNT       serve COUNT events that are made, and count
+  nutscythe serve ADDR PORT COUNT < SCRIPT
+      answer at a port until COUNT datagrams and COUNT connections came, 0: ever
+      (then with a worker for datagrams on each processor)
+  nutscythe --help script          the lines of a script
+  nutscythe --help, nutscythe --version
+
+ADDR is a dotted quad or 32 hex digits. docs/scripts.md has all.
+Exit status: 0 done, 2 faulty command line, 3 refused, 4 a read or 5 a write
+failed, 6 out of memory, 7 script too long, 8 socket or thread failed.
+";
+
+const SCRIPT: &str = "\
+strict yes|no                    down to notify: before all events
+edns yes|no
+secret HEX                       of cookies
+deny ADDR                        needs a good cookie
+dgram none|SIZE WRITE            the server of datagrams
+stream IDLE WRITE QUEUE LIMIT yes|no
+budget none|COUNT WINDOW         replies that a connection queues in WINDOW ms
+rule NAME|* ANSWER ..            a request's polls: pend, rcode:N, blank:N,
+    fill:LEN, opt:LEN, live:TTL, formerr, servfail, notimp, refused, or begin,
+    end, idle:MS, alone or with + before one of the five replies
+upstream NAME WORD ..            its polls: pend, rcode:N, stray:N, late
+zone NAME
+record NAME TTL TYPE HEX         of the zone
+notify NAME pend .. ok|notauth|other
+datagram AT SECS CLIENT ADDR PORT HEX
+offer AT SECS CLIENT ADDR PORT   of a connection
+piece AT SECS CLIENT HEX         octets of its stream
+turn AT SECS CLIENT REQUEST      a request, from 0, is polled once
+write AT SECS CLIENT TOOK        its front frame is written, in TOOK ms
+tick|end|fault|close|release AT SECS CLIENT
+reconfigure AT SECS ..           all hear; the values of dgram, stream, budget
+shutdown AT SECS                 all hear
+look AT SECS CLIENT              of steps
+ask AT SECS ADDR PORT HEX        of a cache
 ";
 
 const VERSION: &str = "nutscythe 0.1.0\n";
@@ -114,16 +131,25 @@ fn of_run(rt: &HostRuntime, words: &[String]) -> ExitCode {
 /// A form of the command line.
 enum Form {
     Help,
+    Script,
     Version,
     Server,
     /// All else, words of no form too.
     Run,
 }
 
+/// The help that the second word asks for.
+fn help_of(words: &[String]) -> Form {
+    match words.get(1).map(|word| word.as_str()) {
+        Some("script") => Form::Script,
+        _ => Form::Help,
+    }
+}
+
 /// The form that the first word says.
 fn form_of(words: &[String]) -> Form {
     match words.first().map(|word| word.as_str()) {
-        Some("--help") => Form::Help,
+        Some("--help") => help_of(words),
         Some("--version") => Form::Version,
         Some("serve") => Form::Server,
         _ => Form::Run,
@@ -138,6 +164,7 @@ fn answered<R: Net + rt::Clock + Threads + Wait + Copy + Send + Sync + 'static>(
 ) -> ExitCode {
     match form_of(words) {
         Form::Help => printed(rt, HELP),
+        Form::Script => printed(rt, SCRIPT),
         Form::Version => printed(rt, VERSION),
         Form::Server => of_server(machine, rt, words),
         Form::Run => of_run(rt, words),
