@@ -1,6 +1,7 @@
 //! The text of messages for people who read logs, laid out as dig does (RFC 1035, section 4.1).
 //!
 //! - `write_message` appends the text of a message: its header, and its sections, each below its title.
+//! - `message_text` gives it for Display.
 //!
 //! Records are written as dns_record_text writes them, so a line of an answer can be put into a zone file. An OPT record
 //! stands in the additional section as any other, with its data in the generic form of RFC 3597. What can't be read of
@@ -30,4 +31,4 @@
 
 mod messages;
 
-pub use messages::write_message;
+pub use messages::{message_text, write_message};

@@ -1,6 +1,6 @@
 //! Messages, laid out as dig does.
 
-ghost use Rattle.std.specs.Prelude.{◌≡◌, ◌++◌, ◌∷◌, OnOk, Ok, Err, decimal};
+ghost use Rattle.std.specs.Prelude.{◌≡◌, ◌++◌, ◌∷◌, IfOk, OnOk, Ok, Err, decimal};
 ghost use Rattle.std.specs.List.{flat_map};
 ghost use Rattle.dns_message.specs.Sections.{counts_of, sections_of};
 ghost use Rattle.dns_message_text.specs.MessageText.{codes_text, counts_text, flag, flags_text, four_sections, header_text, labelled, message_text, opcode_word, question_item, question_text, questions_text, rcode_word, read_text, record_item, records_text, sections_text, title_text, type_name, unreadable};
@@ -9,7 +9,7 @@ use dns_message::{
     Header, HeaderCounts, MessageRef, QuestionIter, QuestionRef, RecordIter, RecordRef, Sections,
 };
 use dns_name::{Opcode, OutOfMemory, ParseError, Rcode, Rtype};
-use dns_record_text::{push, push_class, push_name, push_number, write_record};
+use dns_record_text::{PresentationText, push, push_class, push_name, push_number, write_record};
 use std::alloc::Global;
 
 /// Appends an opcode.
@@ -339,4 +339,16 @@ pub fn write_message(
 {
     push_header(alloc, target, &message.header(), &message.header_counts())?;
     push_body(alloc, target, message)
+}
+
+/// The text of a message for Display, as `write_message` writes it.
+pub fn message_text(
+    alloc: Global,
+    message: &MessageRef<'_>,
+) -> Result<PresentationText, OutOfMemory>
+    ensures { IfOk result (λ t. t ≡ message_text message.now) }
+{
+    let mut octets = Vec::new(alloc);
+    write_message(alloc, &mut octets, message)?;
+    Ok(PresentationText::new(octets))
 }

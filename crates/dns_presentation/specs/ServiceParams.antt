@@ -71,15 +71,25 @@ no_octets v = if nat_eq (length v) 0 then Some [] else None
 abbrev pub port_octets : List ℕ → Option (List ℕ)
 port_octets v = number_below 65536 v >>? λ n. Some (two n)
 
--- keys of two octets, each above the one before it, and the first above another (RFC 9460, section 8)
-abbrev pub keys_rise : ℕ → List ℕ → Bool
-keys_rise last [] = true
-keys_rise last (a ∷ []) = false
-keys_rise last (a ∷ b ∷ os) = nat_lt last (256 * a + b) && keys_rise (256 * a + b) os
+-- The keys that a client must know: in any order as they are read, rising as they are sent (RFC 9460, section 8). One more is put in before
+-- the first larger one. None stands twice, and `mandatory` itself is none of them.
+abbrev pub key_place : ℕ → List ℕ → ℕ
+key_place key ks = position_or_len (λ k. nat_lt key k) ks
 
--- the keys that a client must know, of which `mandatory` itself is none
+abbrev pub with_key : List ℕ → ℕ → Option (List ℕ)
+with_key ks key =
+    if nat_eq key 0 then None
+    else if list_any (λ k. nat_eq k key) ks then None
+    else Some (insert ks (key_place key ks) key)
+
+-- keys of two octets each
+abbrev pub with_keys : List ℕ → List ℕ → Option (List ℕ)
+with_keys ks [] = Some ks
+with_keys ks (a ∷ []) = None
+with_keys ks (a ∷ b ∷ os) = with_key ks (256 * a + b) >>? λ more. with_keys more os
+
 abbrev pub mandatory_octets : List ℕ → Option (List ℕ)
-mandatory_octets v = items_of Key v >>? λ o. if keys_rise 0 o then Some o else None
+mandatory_octets v = items_of Key v >>? λ o. with_keys [] o >>? λ ks. Some (flat_map two ks)
 
 -- the value of a key
 abbrev pub param_value : ℕ → List ℕ → Option (List ℕ)

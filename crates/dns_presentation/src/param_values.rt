@@ -1,7 +1,9 @@
 //! Keys and values of service parameters.
 
-ghost use Rattle.std.specs.Prelude.{◌≡◌, IfOk, false, option_map};
-ghost use Rattle.dns_presentation.specs.ServiceParams.{item_behind, item_step, items_of, keys_rise, mandatory_octets, no_octets, numbered_key, param_key, param_value, port_octets};
+ghost use Rattle.std.specs.Prelude.{◌≡◌, ◌≤◌, IfOk, [], false, length, nat_eq, option_map};
+ghost use Rattle.std.specs.List.{flat_map, list_any};
+ghost use Rattle.dns_name.specs.Place.{two};
+ghost use Rattle.dns_presentation.specs.ServiceParams.{item_behind, item_step, items_of, key_place, mandatory_octets, no_octets, numbered_key, param_key, param_value, port_octets, with_key, with_keys};
 ghost use Rattle.dns_presentation.specs.Strings.{ok};
 ghost use Rattle.base64.specs.GeneralPurpose.{decode_of as base64_of};
 ghost use Rattle.base64.specs.Engines.{standard};
@@ -188,33 +190,79 @@ fn base64_octets(alloc: Global, value: &[u8]) -> Result<Option<Vec<u8>>, AllocEr
     }
 }
 
-/// Whether keys of two octets are each above the one before it, and the first above zero.
-fn keys_rise(octets: &[u8]) -> bool
-    ensures { result ≡ keys_rise 0 octets.now }
+/// Whether a key stands among keys.
+fn is_among(keys: &[u16], key: u16) -> bool
+    ensures { result ≡ list_any (λ k. nat_eq k key) keys.now }
 {
-    let mut last = 0;
+    keys.contains(&key)
+}
+
+/// Where a key belongs among keys that rise.
+fn key_place(keys: &[u16], key: u16) -> usize
+    ensures value { result ≡ key_place key keys.now }
+    ensures within { result ≤ length keys.now }
+{
+    let mut at = 0;
+    for other in keys {
+        if key < *other {
+            return at;
+        }
+        at += 1;
+    }
+    at
+}
+
+/// Takes a key in at its place; none where it stands there already, or is `mandatory`.
+fn add_key(keys: &mut Vec<u16>, key: u16) -> Result<Option<()>, AllocError>
+    ensures { IfOk result (λ o. option_map (λ _. keys.new.items) o ≡ with_key keys.old.items key) }
+{
+    if key == 0 || is_among(keys.as_slice(), key) {
+        return Ok(None);
+    }
+    let at = key_place(keys.as_slice(), key);
+    keys.insert(at, key)?;
+    Ok(Some(()))
+}
+
+/// The keys of two octets each, in rising order.
+fn rising_keys(alloc: Global, octets: &[u8]) -> Result<Option<Vec<u16>>, AllocError>
+    ensures { IfOk result (λ o. option_map (λ v. v.items) o ≡ with_keys [] octets.now) }
+{
+    let mut keys: Vec<u16> = Vec::new(alloc);
     let mut rest = octets;
     'keys: loop {
         let [high, low, ..] = rest else {
-            return rest.is_empty();
+            return Ok(if rest.is_empty() { Some(keys) } else { None });
         };
-        let key = 256 * *high as u32 + *low as u32;
-        if key <= last {
-            return false;
-        }
-        last = key;
+        let Some(_) = add_key(&mut keys, 256 * *high as u16 + *low as u16)? else {
+            return Ok(None);
+        };
         rest = &rest[2..];
     }
+}
+
+/// Keys as octets, two each.
+fn key_octets(alloc: Global, keys: &[u16]) -> Result<Vec<u8>, AllocError>
+    ensures { IfOk result (λ octets. octets.items ≡ flat_map two keys.now) }
+{
+    let mut octets: Vec<u8> = Vec::new(alloc);
+    for key in keys {
+        octets.extend_from_slice(&[(*key / 256) as u8, (*key % 256) as u8])?;
+    }
+    Ok(octets)
 }
 
 /// The octets of the keys that a client must know.
 fn mandatory_octets(alloc: Global, value: &[u8]) -> Result<Option<Vec<u8>>, AllocError>
     ensures { IfOk result (λ o. option_map (λ v. v.items) o ≡ mandatory_octets value.now) }
 {
-    match items(alloc, Item::Key, value)? {
-        Some(octets) if keys_rise(octets.as_slice()) => Ok(Some(octets)),
-        _ => Ok(None),
-    }
+    let Some(octets) = items(alloc, Item::Key, value)? else {
+        return Ok(None);
+    };
+    let Some(keys) = rising_keys(alloc, octets.as_slice())? else {
+        return Ok(None);
+    };
+    Ok(Some(key_octets(alloc, keys.as_slice())?))
 }
 
 /// The octets of the value of a key.

@@ -1,6 +1,7 @@
 //! The text of records (RFC 1035, section 5.1; RFC 3597, section 5), with absolute names.
 //!
 //! - `write_zone` writes records, one a line, and `write_record` appends the line of one.
+//! - `PresentationText` is such a text for Display, as that of a record.
 //!
 //! Data of known types is written in its own form. That of others is written in the generic form of RFC 3597.
 //! dns_zone_file reads what is written of records.
@@ -25,8 +26,10 @@ mod names;
 mod octets;
 mod rdata;
 mod records;
+mod text;
 mod text_strings;
 
 pub use names::push_name;
 pub use octets::{push, push_number};
 pub use records::{push_class, write_record, write_zone};
+pub use text::PresentationText;

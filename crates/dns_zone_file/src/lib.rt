@@ -34,7 +34,7 @@ mod reader;
 mod record;
 
 pub use dns_entries::{EntryReason, ZoneFileError};
-pub use dns_record_text::{write_record, write_zone};
+pub use dns_record_text::{PresentationText, write_record, write_zone};
 pub use draft::{ZoneDraft, ZonePlace};
 pub use laws::{a_zone_comes_in_pieces, a_zone_reads_back, lines_are_entries, names_read_back};
 pub use read::{closed, read_zone};

@@ -6,7 +6,7 @@
 
 use anyhow::bail;
 use dns_name::Name;
-use dns_zone_file::{ZoneFileError, read_zone, write_zone};
+use dns_zone_file::{PresentationText, ZoneFileError, read_zone, write_zone};
 use std::env;
 use std::io::Read;
 
@@ -53,10 +53,7 @@ fn written(rt: &HostRuntime, origin: &Name, text: &[u8]) -> anyhow::Result<()> {
             let Ok(written) = write_zone(rt.alloc(), records.as_slice()) else {
                 bail!("out of memory");
             };
-            let Ok(lines) = str::from_utf8(written.as_slice()) else {
-                bail!("the text isn't ASCII");
-            };
-            print!(rt; "{lines}")?;
+            print!(rt; "{}", PresentationText::new(written))?;
             Ok(())
         }
         Err(error) => refused(rt, error),
