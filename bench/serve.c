@@ -1,5 +1,5 @@
 /* The peers of bench/serve: two plain servers that send back what comes, and the client that drives them and `serve` alike, all on
- * 127.0.0.1. Each ends by itself: a server after 120 s at most, the client after the time that it is given and half a second more.
+ * 127.0.0.1. Each ends by itself: a server after 300 s at most, the client after the time that it is given and half a second more.
  *
  * Usage: serve echo-udp            one loop of recvfrom and sendto; prints its port
  *        serve echo-tcp            a thread for each connection, which sends back each message, with its length, by a write of its own;
@@ -287,7 +287,7 @@ static uint64_t number(const char *text, uint64_t most) {
 }
 
 int main(int count, char **words) {
-    alarm(120);
+    alarm(300);
     signal(SIGPIPE, SIG_IGN);
     if (count == 2 && strcmp(words[1], "echo-udp") == 0) echo_udp();
     whole_pieces = count == 2 && strcmp(words[1], "echo-pieces") == 0;
