@@ -34,7 +34,7 @@ is_pass _ = false
 abbrev pub AnswersReplies : {V Meta : Type 0} → (V → ℕ → PolledVerdict) → Settings → (Notice → ℕ → PolledVerdict) → Req Meta → Decision V → Type 0
 AnswersReplies {V} {Meta} verdict s tgt r d = (svc : Req Meta → ℕ → Answer) (k : ℕ) → decided verdict (svc (passed s r)) d k ≡ replies s svc tgt r k
 
--- the same of a request that isn't refused
+-- of a request that isn't refused, a decision answers as the service in its layers
 abbrev pub AnswersUnrefused : {V Meta : Type 0} → (V → ℕ → PolledVerdict) → Settings → (Notice → ℕ → PolledVerdict) → Req Meta → Decision V → Type 0
 AnswersUnrefused {V} {Meta} verdict s tgt r d = (svc : Req Meta → ℕ → Answer) (k : ℕ) → decided verdict (svc (passed s r)) d k ≡ replies_unrefused s svc tgt r k
 

@@ -46,7 +46,7 @@ looks_one k k' l c = record {
   name = c.same_name;
 }
 
--- the same of some looks
+-- of no look and of one, that the calls are looks alone
 pub only_none : (k : Known) → OnlyLooks k k
 only_none k = record { looks = []; made = looks_none k }
 

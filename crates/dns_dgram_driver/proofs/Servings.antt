@@ -143,7 +143,7 @@ module _ {W R F : Type 0} (answer : PolledRequest F R → ℕ → Answer) (answe
   -- ---- one event more
 
   module _ (settings : Settings) where
-    -- the same of the slates alone
+    -- what is kept of the exchanges, by the slates alone
     pub record ServesAt (q : List Event) (exchanges : List (KeptExchange W R F)) (next : ℕ) (k : Conf) : Type 0 where
       pub each : (c : ℕ) → KeepsExchange answer answers (kept_at c exchanges) (slate answers settings c q)
       pub unused : (c : ℕ) → next ≤ c → (slate answers settings c q).phase ≡ Unused

@@ -17,8 +17,8 @@ use dns_service::{OutOfMemory, SharedService};
 use std::alloc::Global;
 use std::sync::Wait;
 
-/// Hears a look. After a shutdown the configurations stay.
-fn hear_look(heard: &mut Look, look: &Look)
+/// Notes a look as heard. After a shutdown the configurations stay.
+fn note_look(heard: &mut Look, look: &Look)
     ensures { heard.new ≡ hears heard.old look.now }
 {
     if heard.closed || look.version == heard.version {
@@ -47,7 +47,7 @@ pub(crate) fn apply_news<C: Clock, J: Recorder>(
 {
     note_version(alloc, clock, journal, heard, look)?;
     note_shutdown(alloc, clock, journal, heard, look)?;
-    hear_look(heard, look);
+    note_look(heard, look);
     Ok(())
 }
 

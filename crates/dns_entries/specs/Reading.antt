@@ -60,7 +60,7 @@ abbrev pub FailsAt : {A : Type 0} → ReasonError → Result A EntryReason → T
 FailsAt NoMemory read = Unit {0}
 FailsAt (Because r) read = read ≡ Err r
 
--- the same without a line
+-- what a call gives that reads without a line
 abbrev pub GivesAt : {X A : Type 0} → (X → A) → Result X ReasonError → Result A EntryReason → Type 0
 GivesAt view (Ok x) read = read ≡ Ok (view x)
 GivesAt view (Err e) read = FailsAt e read

@@ -95,7 +95,7 @@ forwards_more {S} answer us rs name u s e f =
     ∙ (ap (λ (t : SingleAnswers). answered_under relayed us ++ (name, t) ∷ []) e
     ∙ sym (map_push (λ (r : Route Upstream). let t : Route SingleAnswers = (r.0, relayed r.1) in t) us (name, u)))))
 
--- the same where an upstream is added to what a forwarder holds, if it is
+-- one upstream added to what a forwarder holds, if it is
 pub forwards_added : {S T E : Type 0} (answer : S → SingleAnswers) (us : List (Route Upstream)) (old inside new : List (Route S)) (name : List (List ℕ)) (u : Upstream) (s : S) (r : Result T E)
     → answer s ≡ relayed u → old ≡ inside → OnOk r (new ≡ inside ++ (name, s) ∷ []) → Forwards answer us old → OnOk r (Forwards answer (us ++ (name, u) ∷ []) new)
 forwards_added {S} answer us old inside new name u s r e same added f =

@@ -62,7 +62,7 @@ none_there (x ∷ xs) h = absurd (cc)
 abbrev Left : Inquiry → List (List ℕ) → List ℕ → ℕ → ℕ → Type 0
 Left q xs ats left last = HasLeft (ended_by q.tries xs ats) q ats left last
 
--- the same behind events
+-- what is left behind events
 abbrev pub LeftBehind : Inquiry → List AskingEvent → ℕ → ℕ → Type 0
 LeftBehind q es left last = HasLeft (has_ended q es) q (due_ticks q es) left last
 
@@ -97,7 +97,7 @@ over q xs ats left last e z = subst (λ (b : Bool). HasLeft b q ats left last) (
 on : (q : Inquiry) (xs : List (List ℕ)) (ats : List ℕ) (left last : ℕ) → ended_by q.tries xs ats ≡ false → left + length ats ≡ q.tries → last ≡ last_from q.at ats → Left q xs ats left last
 on q xs ats left last e a l = subst (λ (b : Bool). HasLeft b q ats left last) (sym e) (a, l)
 
--- the same behind other events
+-- what is left behind other events that match alike
 same_left : (q : Inquiry) (xs ys : List (List ℕ)) (ats bts : List ℕ) (left last : ℕ) → ys ≡ xs → bts ≡ ats → Left q xs ats left last → Left q ys bts left last
 same_left q xs ys ats bts left last e f h =
     subst (λ (zs : List (List ℕ)). Left q zs bts left last) (sym e) (subst (λ (cts : List ℕ). Left q xs cts left last) (sym f) h)

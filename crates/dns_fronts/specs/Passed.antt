@@ -14,7 +14,7 @@ abbrev pub passed_to : WrapPost → Option (List ℕ) → Taken WrapPost
 passed_to post None = How.Own (Err InternalError)
 passed_to post (Some message) = How.Passed post message
 
--- the same where a cache has a message for it
+-- a message is asked for unless a cache has one for it
 abbrev pub taken_unless : WrapPost → List ℕ → Option Msg → Taken WrapPost
 taken_unless rule message None = How.Passed rule message
 taken_unless rule message (Some m) = How.Own (rewritten (wrap_by rule) (item_of m))

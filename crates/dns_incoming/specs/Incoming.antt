@@ -1,5 +1,5 @@
 -- A zone transfer as it comes in (RFC 5936, sections 2.2 and 3): the answer records of messages, from an SOA record of the zone up to
--- the same one again.
+-- that SOA record again.
 use Rattle.std.specs.Prelude.{ℕ, Bool, false, ◌&&◌, List, [], ◌∷◌, ◌++◌, length, nat_eq, nat_lt, is_some, if◌then◌else◌, Option, Some, None, Result, Ok, Err}
 use Rattle.std.specs.List.{slice_get}
 use Rattle.dns_name.specs.Canonical.{same_name}

@@ -133,7 +133,7 @@ abbrev pub outcomes_from : Subject → Progress → List LookupEvent → List Lo
 outcomes_from s p [] = []
 outcomes_from s p (e ∷ es) = (lookup_step s p e).1 ∷ outcomes_from s (lookup_step s p e).0 es
 
--- the same of all its events
+-- how far a lookup comes by all its events, and what each leads to
 abbrev pub progress : Subject → List LookupEvent → Progress
 progress s es = progress_from s (InDatagrams []) es
 

@@ -51,7 +51,7 @@ abbrev pub DatagramLeads : Lookup → LookupEvent → Option AskingOutcome → L
 DatagramLeads old e None new o = (new ≡ old) × (o ≡ Nothing)
 DatagramLeads old e (Some x) new o = DatagramsLead old new (λ s es. by_datagram s (moment e) es x) o
 
--- the same over a connection, unless that is lost
+-- an event over a connection, of which the asking heard this, unless the connection is lost
 abbrev pub FrameLeads : Lookup → Bool → Option AskingOutcome → Lookup → LookupOutcome → Type 0
 FrameLeads old true heard new o = ConnectionLeads old new (λ m at es. (Over, Answer (Ok m))) o
 FrameLeads old false None new o = (new ≡ old) × (o ≡ Nothing)

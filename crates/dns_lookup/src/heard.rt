@@ -21,7 +21,7 @@ fn same_address(one: &IpAddr, other: &IpAddr) -> bool
     }
 }
 
-/// The same with their ports.
+/// Whether two addresses and their ports are the same.
 fn same_socket(one: &SocketAddr, other: &SocketAddr) -> bool
     ensures { result ≡ same_socket one.now other.now }
 {

@@ -10,6 +10,13 @@ use std::cmp::Ordering;
 pub struct Serial(pub u32);
 
 impl Serial {
+    /// The serial number of this value.
+    pub fn new(number: u32) -> Serial
+        ensures { result.0 ≡ number }
+    {
+        Serial(number)
+    }
+
     /// The serial so much later (RFC 1982, section 3.1).
     pub fn add(self, other: u32) -> Serial
         requires { other < 2 ^ 31 }

@@ -13,7 +13,7 @@ raw_by code n old new (Err (WrongLength s t)) f (fits, (d, w, a, b, l), e) = (fi
 raw_by code n old new (Err NoMemory) f h = h
 raw_by code n old new (Err ShortBuf) f h = h
 
--- the same into a draft that has room
+-- an option pushed into a draft that has room
 pub raw_in : {P Q : List ℕ → Type 0} (code n : ℕ) (old : OptDraft) (new : List ℕ) (r : Result ⊤ BuildDataError) → ((d : List ℕ) → P d → Q d) → length old.options + 4 + n + 11 ≤ old.room → PushedRaw P code n old.options new r → PushedRawIn Q code n old (with_options old new) r
 raw_in code n old new (Ok u) f room (fits, (d, w, l, e)) = (fits, room, (d, f d w, l, ap (with_options old) e))
 raw_in code n old new (Err LongOptData) f room (long, e) = (long, ap (with_options old) e)

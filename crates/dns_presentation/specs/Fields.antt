@@ -86,7 +86,7 @@ more front read = read >>= λ o. Ok (front ++ o)
 abbrev pub one_field : List (List ℕ) → ℕ → List ℕ → Field → List Word → LineRead (List ℕ × List Word)
 one_field origin line octets f ws = first_word line ws >>= λ w. more octets (field_octets origin f w.0) >>= λ o. Ok (o, w.1)
 
--- the same of fields
+-- the octets so far and those of more fields, and the words behind them
 abbrev pub fields_after : List (List ℕ) → ℕ → List ℕ → List Field → List Word → LineRead (List ℕ × List Word)
 fields_after origin line octets [] ws = Ok (octets, ws)
 fields_after origin line octets (f ∷ fs) ws = one_field origin line octets f ws >>= λ x. fields_after origin line x.0 fs x.1

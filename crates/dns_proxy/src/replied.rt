@@ -29,7 +29,7 @@ pub(crate) fn replied(
     }
 }
 
-/// The same of an item that a rule rewrites first.
+/// The datagram that answers a message by an item that a rule rewrites first.
 pub(crate) fn replied_by<R: Rewrite>(
     alloc: Global,
     rule: &R,

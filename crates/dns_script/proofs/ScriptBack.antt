@@ -228,7 +228,7 @@ all_lines s p = settings_lines s ++ (words_of_service p.service ++ (map words_of
 abbrev again : Settings → Plan Event → Plan Event
 again s p = record (set s) { service = p.service; notify_rules = p.notify_rules; events = p.events }
 
--- the same with a service that isn't made yet
+-- a draft of what they say, whose service isn't made yet
 abbrev drafted : Settings → Plan Event → Draft Event
 drafted s p = served (record (set s) { notify_rules = p.notify_rules; events = p.events }) p.service
 

@@ -12,7 +12,7 @@ line_made old name x ws t1 t2 t3 new a b c d =
     ∙ ap (λ t. t ++ (10 ∷ [])) (append_assoc (old ++ name) (32 ∷ x) (spaced ws) ∙ append_assoc old name ((32 ∷ x) ++ spaced ws) ∙ ap (λ t. old ++ t) (sym (joined_spaced name (x ∷ ws))))
     ∙ append_assoc old (join_with_byte 32 (name ∷ x ∷ ws)) (10 ∷ [])
 
--- the same with a last word behind them
+-- a line that is made by appending a name, a word, more words and a last word
 pub longer_line_made : (old name x v : List ℕ) (ws : List (List ℕ)) (t1 t2 t3 t4 new : List ℕ) → t1 ≡ old ++ name → t2 ≡ t1 ++ 32 ∷ x → t3 ≡ t2 ++ spaced ws → t4 ≡ t3 ++ 32 ∷ v
     → new ≡ t4 ++ 10 ∷ [] → new ≡ old ++ line_of_words (name ∷ x ∷ ws ++ v ∷ [])
 longer_line_made old name x v ws t1 t2 t3 t4 new a b c d e =

@@ -99,7 +99,7 @@ module _ {W R F : Type 0} (answer : PolledRequest F R → ℕ → Answer) (answe
   open_over number (Is_closed freed) s h o = refl
   open_over number Is_lost s h o = refl
 
-  -- the same version tells nothing
+  -- a version that was seen tells nothing
   pub hears_nothing : (core : ClientCore W R F) (look : Look) → look.version ≡ core.version → GoesAs answer answers core core [] (λ s. (slate_after answers s (new_configurations core.version look), []))
   hears_nothing core look e s h = let n = eq-eqb look.version core.version e in rw n (refl, h)
 

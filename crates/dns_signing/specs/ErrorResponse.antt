@@ -9,6 +9,6 @@ use Rattle.dns_service.specs.ErrorReply.{error_begun, error_reply}
 abbrev pub error_response : List ℕ → ℕ → Msg
 error_response o code = if has_item (asked_of o).opt then error_reply o code else (error_begun o code).message
 
--- the same of so many octets at most
+-- an error response of so many octets at most
 abbrev pub error_within : ℕ → List ℕ → ℕ → Msg
 error_within size o code = cut size (error_response o code)

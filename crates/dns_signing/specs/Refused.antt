@@ -43,7 +43,7 @@ with_signed p k e m = with_record_within p.size m (tsig_record (signed_refusal k
 abbrev pub signed_reply : RefusalParts → KeyParts → TsigError → Msg
 signed_reply p k e = with_signed p k e (not_auth p (size_with k (other_octets e (six p.now))))
 
--- the same, with its TSIG however long it is
+-- with a TSIG that has a MAC under the key, however long it is
 abbrev pub and_signed : RefusalParts → KeyParts → TsigError → Msg → Msg
 and_signed p k e m = and_record m (tsig_record (signed_refusal k e p.now p.fudge p.tsig (wire m)))
 

@@ -5,7 +5,7 @@ ghost use Rattle.std.specs.Arc.{arc_value};
 ghost use Rattle.dns_host.specs.Accepting.{AcceptsTo};
 ghost use Rattle.dns_transport.specs.Parts.{IsSeatAt, known_of};
 
-use crate::seating::{put_seat, take_seat};
+use crate::server_parts::{put_seat, take_seat};
 use dns_book::{Book, BookSeat};
 use dns_host::{AcceptEnd, ConnectionWork, PreConnect, Silent, serve_accepts};
 use dns_io::{AsyncAccept, Clock, Spawner};

@@ -15,7 +15,7 @@ use crate::buf::{BufSource, VecBufSource};
 use crate::control::Control;
 use crate::metered_sock::MeteredSock;
 use crate::metrics::ServerMetrics;
-use crate::seating::{ServerParts, put_seat, split_off, take_seat};
+use crate::server_parts::{ServerParts, put_seat, split_off, take_seat};
 use dns_book::{Admission, Book, BookSeat, Call, Reply};
 use dns_host::{DgramEnd, Recorder, serve_datagrams};
 use dns_io::{AsyncDgramSock, Clock};

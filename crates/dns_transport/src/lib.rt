@@ -37,7 +37,7 @@ mod metered;
 mod metered_accept;
 mod metered_sock;
 mod metrics;
-mod seating;
+mod server_parts;
 mod stream;
 
 pub use buf::{BufSource, VecBufSource};

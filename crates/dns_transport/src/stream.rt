@@ -15,7 +15,7 @@ use crate::hook::CountingHook;
 use crate::metered::Metered;
 use crate::metered_accept::MeteredAccept;
 use crate::metrics::ServerMetrics;
-use crate::seating::{ServerParts, split_off};
+use crate::server_parts::{ServerParts, split_off};
 use dns_book::{Book, BookSeat};
 use dns_host::{AcceptEnd, ConnectionWork, NoHook, PreConnect, Silent};
 use dns_io::{AsyncAccept, Clock, Spawner};

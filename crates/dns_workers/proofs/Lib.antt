@@ -1,3 +1,3 @@
-pub mod Turnings
+pub mod OneByOne
 pub mod Workings
 pub mod Causings

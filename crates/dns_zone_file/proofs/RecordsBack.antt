@@ -117,16 +117,16 @@ record_line r t line d h =
 
 -- ---- records
 
-record Told (rs : List Record) (line : ℕ) (d : ZoneDraft) : Type 0 where
+record ReadBack (rs : List Record) (line : ℕ) (d : ZoneDraft) : Type 0 where
   behind : ℕ
   draft : ZoneDraft
   reads : steps (scan_begins line) d (zone_text rs) ≡ Ok (scan_begins behind, draft)
   records : draft.records ≡ d.records ++ rs
 
-told : (rs : List Record) (line : ℕ) (d : ZoneDraft) → AllByRecursion IsZoneRecord rs → Told rs line d
-told [] line d h = record { behind = line; draft = d; reads = refl; records = sym (append-nil d.records) }
-told (r ∷ rs) line d h =
-    let next = told rs (line + 1) (after_record d r.owner r) h.1 in
+read_back : (rs : List Record) (line : ℕ) (d : ZoneDraft) → AllByRecursion IsZoneRecord rs → ReadBack rs line d
+read_back [] line d h = record { behind = line; draft = d; reads = refl; records = sym (append-nil d.records) }
+read_back (r ∷ rs) line d h =
+    let next = read_back rs (line + 1) (after_record d r.owner r) h.1 in
     record {
       behind = next.behind;
       draft = next.draft;
@@ -137,5 +137,5 @@ told (r ∷ rs) line d h =
 pub zone_back : (origin : List (List ℕ)) (rs : List Record) → AllByRecursion IsZoneRecord rs → zone_file origin (zone_text rs) ≡ Ok rs
 unfolding zone_file after_octet
 zone_back origin rs h =
-    let t = told rs 1 (draft_begun origin) h in
+    let t = read_back rs 1 (draft_begun origin) h in
     rw (t.reads) (ap (λ x. Ok x) t.records)

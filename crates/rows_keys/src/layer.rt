@@ -3,7 +3,7 @@
 ghost use Rattle.std.specs.Prelude.{◌≡◌};
 ghost use Rattle.dns_service.specs.Once.{once};
 ghost use Rattle.dns_service.specs.Req.{hint_at_entry};
-ghost use Rattle.rows_keys.specs.Told.{code_for, told};
+ghost use Rattle.rows_keys.specs.KeyedReplies.{code_for, reply_by_key};
 
 use crate::signatures::key;
 use dns_base::Message;
@@ -32,18 +32,18 @@ impl Calls for Signing {
     }
 }
 
-/// Says NXDOMAIN to a request under a key, however that is told, and REFUSED to one without, or fails.
+/// Replies with NXDOMAIN to a request under a key, and with REFUSED to one without, or fails.
 #[derive(Drop)]
-struct Told {
+struct ReplyByKey {
     fails: bool,
 }
 
-impl<K: Drop> Service<Option<K>> for Told {
+impl<K: Drop> Service<Option<K>> for ReplyByKey {
     type Stream = Once;
 
     type Future = Now<Once>;
 
-    ghost answer = { λ s r. once (told s.fails r) };
+    ghost answer = { λ s r. once (reply_by_key s.fails r) };
 
     ghost hint = { λ s. hint_at_entry };
 
@@ -88,7 +88,7 @@ fn served(row: &mut Row<'_>) {
     let Ok(keys) = store(alloc, key) else {
         return row.fail(RowError::OutOfMemory);
     };
-    let service = TsigMiddlewareSvc::new(Told { fails }, keys, least, fudge);
+    let service = TsigMiddlewareSvc::new(ReplyByKey { fails }, keys, least, fudge);
     let transport = TransportSpecificContext::Udp(UdpTransportContext::new(hint));
     let sender = SocketAddr {
         ip: IpAddr::V4([192, 0, 2, 1]),

@@ -2,7 +2,7 @@ use Rattle.std.proofs.Common.{◌≡◌, ◌∙◌, ◌<◌, ◌+◌, ◌++◌, 
 use Rattle.std.proofs.lemmas.List.{get_or_default, map_more}
 use Rattle.dns_host.specs.declared.host.HostEnd.{HostEnd}
 use Rattle.dns_workers.specs.Workers.{end_of_all, graver_end, outcome_of}
-use Rattle.dns_workers.proofs.Turnings.{ended_more, joined_more, one_turned}
+use Rattle.dns_workers.proofs.OneByOne.{ended_more, joined_more, one_turned}
 use Rattle.dns_workers.proofs.seats.join_workers.Goals as goal
 
 pub loop-worker-preserved : goal.loop-worker-preserved

@@ -1,6 +1,6 @@
 use Rattle.std.proofs.Common.{◌≡◌, map, take}
 use Rattle.dns_workers.specs.Workers.{JoinedAll, end_of_all, outcome_of}
-use Rattle.dns_workers.proofs.Turnings.{Gave, Turned}
+use Rattle.dns_workers.proofs.OneByOne.{Gave, Turned}
 use Rattle.dns_workers.proofs.seats.join_workers.Given as goal
 
 -- the seats of the workers so far are joined, and their ends counted

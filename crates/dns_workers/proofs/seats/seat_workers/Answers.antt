@@ -1,7 +1,7 @@
 use Rattle.std.proofs.Common.{◌∙◌, ◌<◌, ap, get_or, length, add-one, arith}
 use Rattle.std.proofs.lemmas.List.{get_or_default}
 use Rattle.dns_book.specs.Seats.{first_half}
-use Rattle.dns_workers.proofs.Turnings.{one_turned}
+use Rattle.dns_workers.proofs.OneByOne.{one_turned}
 use Rattle.dns_workers.proofs.seats.seat_workers.Goals as goal
 
 pub loop-worker-preserved : goal.loop-worker-preserved

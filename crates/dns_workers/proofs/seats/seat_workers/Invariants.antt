@@ -1,6 +1,6 @@
 use Rattle.std.proofs.Common.{◌≡◌}
 use Rattle.dns_workers.specs.Workers.{left_after}
-use Rattle.dns_workers.proofs.Turnings.{Took, Turned}
+use Rattle.dns_workers.proofs.OneByOne.{Took, Turned}
 use Rattle.dns_workers.proofs.seats.seat_workers.Given as goal
 
 -- the workers so far have their seats

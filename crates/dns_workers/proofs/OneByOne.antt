@@ -1,4 +1,4 @@
--- Workers that take turns in a loop.
+-- A loop that does something to each worker, one by one.
 use Rattle.std.proofs.Common.{refl, ◌≡◌, ◌∙◌, ◌+◌, ◌<◌, ◌≤◌, ℕ, List, [], ◌∷◌, ◌++◌, length, map, get_or, take, set, sym, subst, below_more, arith}
 use Rattle.std.proofs.lemmas.List.{get_or-set_same, get_or-set_other, get_or_default}
 use Rattle.atomic_table.specs.Seated.{TableId}

@@ -1,4 +1,4 @@
--- What the service says to the layer that signs: NXDOMAIN to a request under a key, REFUSED to one without, or that it fails.
+-- What the service replies to the layer that signs: NXDOMAIN to a request under a key, REFUSED to one without, or an error.
 use Rattle.std.specs.Prelude.{ℕ, Bool, Option, Some, None, Ok, Err, if◌then◌else◌}
 use Rattle.dns_service.specs.Answer.{Item}
 use Rattle.dns_service.specs.ErrorReply.{error_reply}
@@ -9,5 +9,5 @@ abbrev pub code_for : {K : Type 0} → Option K → ℕ
 code_for (Some key) = 3
 code_for None = 5
 
-abbrev pub told : {K : Type 0} → Bool → Req (Option K) → Item
-told fails r = if fails then Err InternalError else Ok (record { response = Some (error_reply r.octets (code_for r.metadata)); feedback = None })
+abbrev pub reply_by_key : {K : Type 0} → Bool → Req (Option K) → Item
+reply_by_key fails r = if fails then Err InternalError else Ok (record { response = Some (error_reply r.octets (code_for r.metadata)); feedback = None })
