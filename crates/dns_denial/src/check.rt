@@ -26,12 +26,7 @@ fn is_to_list(zone: &ZoneTree, resource: &Record, standing: &Standing<'_>, rtype
 }
 
 /// Whether an NSEC is that of a record's owner, and lists the record's type where it is to be listed.
-fn lists_record(
-    zone: &ZoneTree,
-    resource: &Record,
-    standing: &Standing<'_>,
-    nsec: &Nsec,
-) -> bool
+fn lists_record(zone: &ZoneTree, resource: &Record, standing: &Standing<'_>, nsec: &Nsec) -> bool
     requires { StandsAt zone.now resource.now.owner standing.now }
     ensures { result ≡ lists_record zone.now resource.now nsec.now }
 {

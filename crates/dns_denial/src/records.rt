@@ -32,9 +32,7 @@ fn delegates(zone: &ZoneTree, name: &Name, resource: &Record) -> bool
 pub(crate) fn is_below_cut(zone: &ZoneTree, name: &Name) -> bool
     ensures { result ≡ is_below_cut zone.now name.now }
 {
-    zone.records()
-        .iter()
-        .any(|resource| delegates(zone, name, resource) && resource.owner != *name)
+    zone.records().iter().any(|resource| delegates(zone, name, resource) && resource.owner != *name)
 }
 
 /// Whether a name is at or below one.
@@ -59,7 +57,6 @@ pub(crate) fn owns(zone: &ZoneTree, name: &Name) -> bool
 pub(crate) fn owns_type(zone: &ZoneTree, name: &Name, rtype: u16) -> bool
     ensures { result ≡ list_any (is_record_at name.now rtype) zone.now.records }
 {
-    zone.records()
-        .iter()
-        .any(|resource| resource.owner == *name && resource.rdata.rtype().to_int() == rtype)
+    zone.records().iter().any(|resource| resource.owner == *name
+        && resource.rdata.rtype().to_int() == rtype)
 }

@@ -60,12 +60,7 @@ fn has_type_in(zone: &ZoneTree, name: &Name, kinds: &Kinds, rtype: u16) -> bool
 }
 
 /// Whether the zone has a type at a name.
-pub(crate) fn has_type(
-    zone: &ZoneTree,
-    name: &Name,
-    standing: &Standing<'_>,
-    rtype: u16,
-) -> bool
+pub(crate) fn has_type(zone: &ZoneTree, name: &Name, standing: &Standing<'_>, rtype: u16) -> bool
     requires { StandsAt zone.now name.now standing.now }
     ensures { result ≡ has_type zone.now name.now rtype }
 {

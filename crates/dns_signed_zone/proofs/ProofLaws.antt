@@ -24,7 +24,7 @@ use Rattle.dns_denial.proofs.ListLaws.{present}
 use Rattle.dns_denial.proofs.NameLaws.{ends_itself}
 use Rattle.dns_denial.proofs.RegionLaws.{AtCut, asked_cut, reached}
 use Rattle.dns_denial.proofs.StartLaws.{starts, within_all}
-use Rattle.dns_signed_zone.specs.SignedZones.{AreAccepted, AreOfZone, IsOne, IsTwo, SignedState, head_of, one_of, proved_by}
+use Rattle.dns_signed_zone.specs.SignedZones.{AreAccepted, AreOfZone, IsOne, IsTwo, Proves, SignedState, head_of, one_of, proved_by}
 
 -- ---- the first record at places
 
@@ -45,10 +45,6 @@ head_none [] e = refl
 head_none (x ∷ rs) e = absurd (cc)
 
 -- ---- NSECs that are accepted, and the zone's
-
-pub record Proves (s : SignedState) (t : ℕ) (name : List (List ℕ)) (ns : List NsecState) : Type 0 where
-  pub accepted : AreAccepted s t name ns
-  pub of_zone : AreOfZone s ns
 
 module _ (s : SignedState) (w : IsWhole s.zone s.nsecs) (t : ℕ) (name : List (List ℕ)) (inside : ends_name name s.zone.apex ≡ true) where
   alone : (n m : NsecState) → Contains s.nsecs n → Contains (n ∷ []) m → Contains s.nsecs m

@@ -28,6 +28,11 @@ AreAccepted s t name ns = CanBeDenied s.zone name t → is_accepted s.zone ns t 
 abbrev pub AreOfZone : SignedState → List NsecState → Type 0
 AreOfZone s ns = (n : NsecState) → Contains ns n → Contains s.nsecs n
 
+-- NSECs that are accepted, and the zone's
+pub record Proves (s : SignedState) (t : ℕ) (name : List (List ℕ)) (ns : List NsecState) : Type 0 where
+  pub accepted : AreAccepted s t name ns
+  pub of_zone : AreOfZone s ns
+
 -- ---- what is chosen
 
 abbrev pub head_of : List Record → Option Record

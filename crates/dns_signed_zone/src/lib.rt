@@ -26,8 +26,8 @@
 //! More NSECs than a reply needs. By reading the code an answer that exists gets one, which its reply can leave out.
 #![tactic(auto)]
 
-mod proofs;
+mod reply_proofs;
 mod signed_zone;
 
-pub use proofs::Proofs;
+pub use reply_proofs::Proofs;
 pub use signed_zone::SignedZone;

@@ -6,10 +6,11 @@ ghost use Rattle.std.specs.Option.{option_copied};
 ghost use Rattle.dns_route.specs.Routes.{ends_name};
 ghost use Rattle.dns_zone.specs.Places.{at_places};
 ghost use Rattle.dns_zone_tree.specs.TreeErrors.{tree_error};
+ghost use Rattle.dns_denial.specs.Chains.{IsWhole};
 ghost use Rattle.dns_denial.specs.Checks.{Breaks};
-ghost use Rattle.dns_signed_zone.specs.SignedZones.{AreAccepted, AreOfZone, IsOne, IsTwo, head_of, proved_by};
+ghost use Rattle.dns_signed_zone.specs.SignedZones.{IsOne, IsTwo, Proves, head_of, proved_by};
 
-use crate::proofs::Proofs;
+use crate::reply_proofs::Proofs;
 use dns_base::Record;
 use dns_denial::{Chain, ChainError};
 use dns_name::{NameRef, OutOfMemory};
@@ -54,6 +55,65 @@ fn first_at<'a>(records: &'a [Record], places: &[usize]) -> Option<&'a Record>
     None
 }
 
+/// The NSEC for a name that exists.
+fn one<'a>(chain: &'a Chain, alloc: Global, name: &NameRef<'_>) -> Result<Proofs<'a>, OutOfMemory>
+    ensures { IfOk result (λ p. IsOne chain.now name.now (option_copied p.first) (option_copied p.second)) }
+{
+    match chain.denial(alloc, name)? {
+        Some(nsec) => Ok(Proofs {
+            first: Some(nsec),
+            second: None,
+        }),
+        None => Ok(Proofs {
+            first: None,
+            second: None,
+        }),
+    }
+}
+
+/// The NSECs for a name that doesn't exist.
+fn two<'a>(chain: &'a Chain, alloc: Global, name: &NameRef<'_>) -> Result<Proofs<'a>, OutOfMemory>
+    ensures { IfOk result (λ p. IsTwo chain.now name.now (option_copied p.first) (option_copied p.second)) }
+{
+    match chain.wildcard_denial(alloc, name)? {
+        Some(denial) => Ok(Proofs {
+            first: Some(denial.name),
+            second: Some(denial.wildcard),
+        }),
+        None => Ok(Proofs {
+            first: None,
+            second: None,
+        }),
+    }
+}
+
+/// The NSECs of a chain that prove what the reply of a zone says of a name, where a type is asked for.
+fn proofs_of<'a>(
+    zone: &ZoneTree,
+    chain: &'a Chain,
+    alloc: Global,
+    name: &NameRef<'_>,
+    rtype: u16,
+) -> Result<Proofs<'a>, OutOfMemory>
+    requires whole { IsWhole zone.now chain.now }
+    requires inside { IsTrue (ends_name name.now zone.now.apex) }
+    ensures { IfOk result (λ p. Proves (record { zone = zone.now; nsecs = chain.now }) rtype name.now (proved_by (option_copied p.first) (option_copied p.second))) }
+{
+    let found = zone.walk(alloc, name, rtype)?;
+    match found {
+        Walk::Node(_) => one(chain, alloc, name),
+        Walk::Missing(_) => two(chain, alloc, name),
+        Walk::Cut(servers) => match first_at(zone.records(), servers) {
+            Some(server) => one(chain, alloc, &server.owner.for_ref()),
+            None => unreachable!(),
+        },
+        Walk::Dname(_) => Ok(Proofs {
+            first: None,
+            second: None,
+        }),
+    }
+}
+
 impl SignedZone {
     /// The zone with its chain. Refused where the chain isn't whole.
     pub fn new(alloc: Global, zone: ZoneTree, chain: Chain) -> Result<SignedZone, ChainError>
@@ -73,41 +133,16 @@ impl SignedZone {
         &self.zone
     }
 
-    /// The chain.
+    /// The chain, which is whole.
     pub fn chain(&self) -> &Chain
-        ensures { result.now ≡ self.now.nsecs }
+        ensures value { result.now ≡ self.now.nsecs }
+        ensures whole { IsWhole self.now.zone result.now }
     {
         &self.chain
     }
 
-    /// The NSEC for a name that exists.
-    fn one(&self, alloc: Global, name: &NameRef<'_>) -> Result<Proofs<'_>, OutOfMemory>
-        ensures { IfOk result (λ p. IsOne self.now.nsecs name.now (option_copied p.first) (option_copied p.second)) }
-    {
-        let first = self.chain.denial(alloc, name)?;
-        Ok(Proofs {
-            first,
-            second: None,
-        })
-    }
-
-    /// The NSECs for a name that doesn't exist.
-    fn two(&self, alloc: Global, name: &NameRef<'_>) -> Result<Proofs<'_>, OutOfMemory>
-        ensures { IfOk result (λ p. IsTwo self.now.nsecs name.now (option_copied p.first) (option_copied p.second)) }
-    {
-        match self.chain.wildcard_denial(alloc, name)? {
-            Some(denial) => Ok(Proofs {
-                first: Some(denial.name),
-                second: Some(denial.wildcard),
-            }),
-            None => Ok(Proofs {
-                first: None,
-                second: None,
-            }),
-        }
-    }
-
-    /// The NSECs that prove what the reply to a question says of a name, where a type is asked for.
+    /// The NSECs that prove what the reply to a question says of a name, where a type is asked for: they are the zone's, and a
+    /// validator accepts them.
     pub fn proofs(
         &self,
         alloc: Global,
@@ -115,21 +150,8 @@ impl SignedZone {
         rtype: u16,
     ) -> Result<Proofs<'_>, OutOfMemory>
         requires { IsTrue (ends_name name.now self.now.zone.apex) }
-        ensures accepted { IfOk result (λ p. AreAccepted self.now rtype name.now (proved_by (option_copied p.first) (option_copied p.second))) }
-        ensures of_zone { IfOk result (λ p. AreOfZone self.now (proved_by (option_copied p.first) (option_copied p.second))) }
+        ensures { IfOk result (λ p. Proves self.now rtype name.now (proved_by (option_copied p.first) (option_copied p.second))) }
     {
-        let found = self.zone.walk(alloc, name, rtype)?;
-        match found {
-            Walk::Node(_) => self.one(alloc, name),
-            Walk::Missing(_) => self.two(alloc, name),
-            Walk::Cut(servers) => match first_at(self.zone.records(), servers) {
-                Some(server) => self.one(alloc, &server.owner.for_ref()),
-                None => unreachable!(),
-            },
-            Walk::Dname(_) => Ok(Proofs {
-                first: None,
-                second: None,
-            }),
-        }
+        proofs_of(&self.zone, &self.chain, alloc, name, rtype)
     }
 }
