@@ -134,7 +134,7 @@ module _ (z : ZoneState) (ns chosen : List NsecState) (t : ℕ) (name : List (Li
       wild_answered : IsAnswered z (wildcard z name)
       wild_answered = record { cut = wildcard_cut z start name h; dname = wildcard_dname z start name r.dname e }
 
-      m : NsecState
+      abbrev m : NsecState
       m = (k e).0
 
       last : IsLast ns (wildcard z name) m

@@ -1,10 +1,11 @@
 -- The NSEC3s that the search chooses.
 use Rattle.std.proofs.Common.{◌≡◌, ℕ, zero, suc, ◌+◌, ◌≤◌, ◌<◌, Bool, true, false, List, [], ◌∷◌, length, drop, refl, ap, sym, subst, ◌∙◌, arith, length-append}
-use Rattle.std.specs.Prelude.{◌||◌, if◌then◌else◌}
+use Rattle.std.specs.Prelude.{◌==◌, ◌||◌, not, if◌then◌else◌}
 use Rattle.std.specs.Cmp.{both_ways}
 use Rattle.std.specs.List.{Contains, list_any}
 use Rattle.std.specs.Str.{bytes_eq}
-use Rattle.std.proofs.lemmas.Bool.{true≢false}
+use Rattle.std.proofs.lemmas.Bool.{true≢false, not-true}
+use Rattle.std.proofs.lemmas.Bool.Decides.{nat_tests}
 use Rattle.dns_name.specs.Labels.{IsName, spell}
 use Rattle.dns_route.specs.Routes.{ends_name}
 use Rattle.dns_zone.specs.Owned.{ZoneState}
@@ -73,6 +74,13 @@ module _ (h : Hashing) (ns : List Nsec3State) where
   any_none : (name : List (List ℕ)) → ns ≡ [] → any_matched h ns name ≡ false
   any_none [] e = ap (λ (ms : List Nsec3State). is_matched h ms []) e
   any_none (l ∷ ls) e = ap (λ (ms : List Nsec3State). is_matched h ms (l ∷ ls) || any_matched h ns ls) e ∙ any_none ls e
+
+  not_none : (n : ℕ) → not (suc n == 0) ≡ true
+  not_none n = grind (arith, nat_tests)
+
+  pub empty_by : (xs : List Nsec3State) (b : Bool) → b ≡ (length xs == 0) → b ≡ true → xs ≡ []
+  empty_by [] b e t = refl
+  empty_by (x ∷ xs) b e t = absurd (true≢false (sym (sym e ∙ t) ∙ not-true (suc (length xs) == 0) (not_none (length xs))))
 
   pub no_chain : (name : List (List ℕ)) → ns ≡ [] → HasNoZone3 h ns name
   no_chain name e z w i = true≢false (sym (inside z h ns w name i) ∙ any_none name e)

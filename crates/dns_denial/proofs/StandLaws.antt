@@ -98,11 +98,11 @@ module _ (z : ZoneState) (name : List (List ℕ)) (m : Kinds) (h : IsHeld z name
           (and_from (is_of 2 f.one) (ends_name name f.one.owner && not (same_name f.one.owner z.apex)) q.1
           (and_from (ends_name name f.one.owner) (not (same_name f.one.owner z.apex)) (same_ends name f.one.owner (same_back f.one.owner name q.0)) (not_from_false (same_name f.one.owner z.apex) o)))
 
-  two : 2 ≢ 255
-  two = omega arith
+  other : (t : ℕ) → t ≡ 2 → t ≢ 255
+  other t e = omega (arith, e)
 
   -- what places say is so
   pub held_has : (t : ℕ) → t ≢ 255 → is_kept z name t m ≡ has_type z name t
   held_has t n =
-      let c : (is_placed 2 m && not (same_name name z.apex)) ≡ is_cut_off z name = ap (λ (b : Bool). b && not (same_name name z.apex)) (held_type 2 two) ∙ sym held_cut in
+      let c : (is_placed 2 m && not (same_name name z.apex)) ≡ is_cut_off z name = ap (λ (b : Bool). b && not (same_name name z.apex)) (held_type 2 (other 2 refl)) ∙ sym held_cut in
       λ i. held_type t n i && (not (c i) || (nat_eq t 2 || nat_eq t 43))

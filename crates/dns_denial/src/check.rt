@@ -83,17 +83,26 @@ fn is_there(zone: &ZoneTree, nsec: &Nsec, standing: &Standing<'_>, rtype: u16) -
     !is_told(rtype) || has_type(zone, nsec.owner(), standing, rtype)
 }
 
-/// Whether the types that an NSEC lists are there.
-fn are_there(zone: &ZoneTree, nsec: &Nsec, standing: &Standing<'_>) -> bool
+/// Whether types that an NSEC lists are there.
+fn are_all_there(zone: &ZoneTree, nsec: &Nsec, standing: &Standing<'_>, types: &[u16]) -> bool
     requires { StandsAt zone.now nsec.now.owner standing.now }
-    ensures { result ≡ list_all (is_there zone.now nsec.now) nsec.now.types }
+    ensures { result ≡ list_all (is_there zone.now nsec.now) types.now }
 {
-    'each: for rtype in nsec.types() {
+    'each: for rtype in types {
         if !is_there(zone, nsec, standing, *rtype) {
             return false;
         }
     }
     true
+}
+
+/// Whether the types that an NSEC lists are there.
+fn are_there(zone: &ZoneTree, nsec: &Nsec, standing: &Standing<'_>) -> bool
+    requires { StandsAt zone.now nsec.now.owner standing.now }
+    ensures { result ≡ list_all (is_there zone.now nsec.now) nsec.now.types }
+{
+    let types = nsec.types();
+    are_all_there(zone, nsec, standing, types)
 }
 
 /// Whether an NSEC is of a name that must have one, and lists types that the zone has there.

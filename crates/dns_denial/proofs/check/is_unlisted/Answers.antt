@@ -1,9 +1,10 @@
-use Rattle.std.proofs.Common.{◌≡◌, Bool, true, ap, sym, ◌∙◌}
+use Rattle.std.proofs.Common.{◌≡◌, ℕ, Bool, true, List, ap, sym, subst, ◌∙◌}
 use Rattle.std.specs.Prelude.{◌&&◌, not}
 use Rattle.std.specs.List.{list_any}
 use Rattle.std.proofs.lemmas.Bool.{and_left}
 use Rattle.dns_denial.specs.Chains.{must_have}
 use Rattle.dns_denial.specs.Checks.{lists_record}
+use Rattle.dns_denial.specs.Denials.{AllBehind, IsLast}
 use Rattle.dns_denial.proofs.WholeLaws.{listed_by, listed_none}
 use Rattle.dns_denial.proofs.check.is_unlisted.Goals as goal
 
@@ -18,7 +19,7 @@ returns-in-Some c =
     let z = c.args.zone.now in
     let r = c.args.resource.now in
     let ns = c.args.nsecs.now in
-    let l = rw c.in-Some.is at c.in_ok-nsec.ensures in
+    let l = subst (λ (n : List (List ℕ)). IsLast ns n c.in-Some.nsec.now) c.for_ref.ensures.value (rw c.in-Some.is at c.in_ok-nsec.ensures) in
     ap not c.lists_record.ensures
     ∙ sym (ap (λ (b : Bool). b && not (list_any (lists_record z r) ns)) (sym c.if-not-must_have.ensures) ∙ ap not (listed_by z ns c.requires.sorted r c.in-Some.nsec.now l))
 
@@ -27,5 +28,5 @@ returns-in-None c =
     let z = c.args.zone.now in
     let r = c.args.resource.now in
     let ns = c.args.nsecs.now in
-    let l = rw c.in-None.is at c.in_ok-nsec.ensures in
+    let l = subst (λ (n : List (List ℕ)). AllBehind ns n) c.for_ref.ensures.value (rw c.in-None.is at c.in_ok-nsec.ensures) in
     sym (ap (λ (b : Bool). b && not (list_any (lists_record z r) ns)) (sym c.if-not-must_have.ensures) ∙ ap not (listed_none z ns c.requires.sorted r l))

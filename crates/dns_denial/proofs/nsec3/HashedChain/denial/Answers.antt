@@ -1,12 +1,15 @@
-use Rattle.std.proofs.Common.{◌≡◌, false, rules, sym, subst, ◌∙◌, List, [], ◌∷◌, ℕ}
+use Rattle.std.proofs.Common.{◌≡◌, false, sym, subst, ◌∙◌, List, [], ◌∷◌, ℕ}
 use Rattle.dns_zone_tree.specs.Wildcards.{star}
 use Rattle.dns_denial.specs.Accepted3.{AreChosen}
 use Rattle.dns_denial.specs.Nsec3.{IsNear, Nsec3State, is_matched}
-use Rattle.dns_denial.proofs.HashedChoice.{chosen_three, no_chain}
+use Rattle.dns_denial.proofs.HashedChoice.{chosen_three, empty_by, no_chain}
 use Rattle.dns_denial.proofs.nsec3.HashedChain.denial.Goals as goal
 
 pub returns-then-is_empty : goal.returns-then-is_empty
-returns-then-is_empty c = no_chain c.args.hashing.now c.args.self.now c.args.name.now (search rules)
+returns-then-is_empty c =
+    let h = c.args.hashing.now in
+    let ns = c.args.self.now in
+    no_chain h ns c.args.name.now (sym c.nsecs-nsecs.ensures.value ∙ empty_by h ns c.nsecs-nsecs.result.now c.is_empty.result c.is_empty.ensures c.if-is_empty.true)
 
 pub returns : goal.returns
 returns c =
