@@ -1,0 +1,12 @@
+use Rattle.std.proofs.Common.{◌≡◌, ◌++◌, length}
+use Rattle.dns_name.specs.Labels.{AreLabels, folded, spell}
+use Rattle.dns_denial.proofs.hash.canonical.Given as goal
+
+abbrev pub invariant-labels : goal.invariant-labels
+invariant-labels l = record {
+  told : l.octets.items ++ spell (folded l.left) ≡ spell (folded l.fn.labels);
+  fits : AreLabels l.left;
+}
+
+abbrev pub decreases-labels : goal.decreases-labels
+decreases-labels l = length l.left

@@ -1,0 +1,15 @@
+pub use Rattle.dns_zone.specs.Owned
+pub use Rattle.dns_zone.specs.ZoneReply
+pub use Rattle.dns_zone_tree.specs.TreeErrors
+pub use Rattle.dns_zone_tree.specs.Wildcards
+pub use Rattle.dns_zone_tree.specs.Regions
+pub mod Nsecs
+pub mod Validation
+pub mod Chains
+pub mod Denials
+pub mod Checks
+pub mod Accepted
+pub mod Nsec3
+pub mod Hashes
+pub mod Accepted3
+pub mod Signed

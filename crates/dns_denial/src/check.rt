@@ -1,0 +1,196 @@
+//! Whether a chain is whole.
+
+ghost use Rattle.std.specs.Prelude.{◌≡◌, ◌+◌, ◌<◌, ◌&&◌, ◌||◌, not, length, None, IfOk, MatchOption, MatchResult};
+ghost use Rattle.std.specs.List.{list_all, position};
+ghost use Rattle.dns_zone_tree.specs.TreeErrors.{tree_error};
+ghost use Rattle.dns_denial.specs.Nsecs.{AreSorted, NsecState};
+ghost use Rattle.dns_denial.specs.Chains.{IsChained, has_type, is_told, must_have};
+ghost use Rattle.dns_denial.specs.Checks.{AreLinked, AreSound, Breaks, IsUnlinked, StandsAt, is_there, is_unfounded, is_unlisted, lists_record, owner_behind};
+
+use crate::chain_error::ChainError;
+use crate::nsec::Nsec;
+use crate::search::last_of;
+use crate::standing::{Standing, standing_of};
+use crate::types::{has_type, is_told, must_have};
+use dns_base::Record;
+use dns_name::{Name, OutOfMemory};
+use dns_zone_tree::ZoneTree;
+use std::alloc::Global;
+
+/// Whether the type of a record is to be listed at its owner.
+fn is_to_list(zone: &ZoneTree, resource: &Record, standing: &Standing<'_>, rtype: u16) -> bool
+    requires { StandsAt zone.now resource.now.owner standing.now }
+    ensures { result ≡ (is_told rtype && has_type zone.now resource.now.owner rtype) }
+{
+    is_told(rtype) && has_type(zone, &resource.owner, standing, rtype)
+}
+
+/// Whether an NSEC is that of a record's owner, and lists the record's type where it is to be listed.
+fn lists_record(zone: &ZoneTree, resource: &Record, standing: &Standing<'_>, nsec: &Nsec) -> bool
+    requires { StandsAt zone.now resource.now.owner standing.now }
+    ensures { result ≡ lists_record zone.now resource.now nsec.now }
+{
+    let rtype = resource.rdata.rtype().to_int();
+    *nsec.owner() == resource.owner
+        && (!is_to_list(zone, resource, standing, rtype) || nsec.lists(rtype))
+}
+
+/// Whether a record is of a name that must have an NSEC, and there is none that lists it.
+fn is_unlisted(
+    zone: &ZoneTree,
+    alloc: Global,
+    nsecs: &[Nsec],
+    resource: &Record,
+) -> Result<bool, OutOfMemory>
+    requires zone { tree_error zone.now.apex zone.now.records ≡ None }
+    requires sorted { AreSorted nsecs.now }
+    ensures { IfOk result (λ b. b ≡ is_unlisted zone.now nsecs.now resource.now) }
+{
+    let standing = standing_of(zone, alloc, &resource.owner)?;
+    if !must_have(zone, &resource.owner, &standing) {
+        return Ok(false);
+    }
+    match last_of(nsecs, alloc, &resource.owner.for_ref())? {
+        Some(nsec) => Ok(!lists_record(zone, resource, &standing, nsec)),
+        None => Ok(true),
+    }
+}
+
+/// The place of the first record that no NSEC lists.
+fn first_unlisted(
+    zone: &ZoneTree,
+    alloc: Global,
+    nsecs: &[Nsec],
+    records: &[Record],
+) -> Result<Option<usize>, OutOfMemory>
+    requires zone { tree_error zone.now.apex zone.now.records ≡ None }
+    requires sorted { AreSorted nsecs.now }
+    ensures { IfOk result (λ p. p ≡ position (is_unlisted zone.now nsecs.now) records.now) }
+{
+    'each: for (index, resource) in records.iter().enumerate() {
+        if is_unlisted(zone, alloc, nsecs, resource)? {
+            return Ok(Some(index));
+        }
+    }
+    Ok(None)
+}
+
+/// Whether a type that an NSEC lists is there.
+fn is_there(zone: &ZoneTree, nsec: &Nsec, standing: &Standing<'_>, rtype: u16) -> bool
+    requires { StandsAt zone.now nsec.now.owner standing.now }
+    ensures { result ≡ is_there zone.now nsec.now rtype }
+{
+    !is_told(rtype) || has_type(zone, nsec.owner(), standing, rtype)
+}
+
+/// Whether types that an NSEC lists are there.
+fn are_all_there(zone: &ZoneTree, nsec: &Nsec, standing: &Standing<'_>, types: &[u16]) -> bool
+    requires { StandsAt zone.now nsec.now.owner standing.now }
+    ensures { result ≡ list_all (is_there zone.now nsec.now) types.now }
+{
+    'each: for rtype in types {
+        if !is_there(zone, nsec, standing, *rtype) {
+            return false;
+        }
+    }
+    true
+}
+
+/// Whether the types that an NSEC lists are there.
+fn are_there(zone: &ZoneTree, nsec: &Nsec, standing: &Standing<'_>) -> bool
+    requires { StandsAt zone.now nsec.now.owner standing.now }
+    ensures { result ≡ list_all (is_there zone.now nsec.now) nsec.now.types }
+{
+    let types = nsec.types();
+    are_all_there(zone, nsec, standing, types)
+}
+
+/// Whether an NSEC is of a name that must have one, and lists types that the zone has there.
+fn is_founded(zone: &ZoneTree, nsec: &Nsec, standing: &Standing<'_>) -> bool
+    requires { StandsAt zone.now nsec.now.owner standing.now }
+    ensures { result ≡ (must_have zone.now nsec.now.owner && list_all (is_there zone.now nsec.now) nsec.now.types) }
+{
+    must_have(zone, nsec.owner(), standing) && are_there(zone, nsec, standing)
+}
+
+/// Whether an NSEC is of a name that must have none, or lists a type that the zone doesn't have there.
+fn is_unfounded(zone: &ZoneTree, alloc: Global, nsec: &Nsec) -> Result<bool, OutOfMemory>
+    requires { tree_error zone.now.apex zone.now.records ≡ None }
+    ensures { IfOk result (λ b. b ≡ is_unfounded zone.now nsec.now) }
+{
+    let standing = standing_of(zone, alloc, nsec.owner())?;
+    Ok(!is_founded(zone, nsec, &standing))
+}
+
+/// The place of the first NSEC that is unfounded.
+fn first_unfounded(
+    zone: &ZoneTree,
+    alloc: Global,
+    nsecs: &[Nsec],
+) -> Result<Option<usize>, OutOfMemory>
+    requires { tree_error zone.now.apex zone.now.records ≡ None }
+    ensures { IfOk result (λ p. p ≡ position (is_unfounded zone.now) nsecs.now) }
+{
+    'each: for (index, nsec) in nsecs.iter().enumerate() {
+        if is_unfounded(zone, alloc, nsec)? {
+            return Ok(Some(index));
+        }
+    }
+    Ok(None)
+}
+
+/// The owner behind a place; behind the last one the apex.
+fn owner_behind<'a>(apex: &'a Name, nsecs: &'a [Nsec], place: usize) -> &'a Name
+    requires { place < length nsecs.now }
+    ensures { (d : NsecState) → result.now ≡ owner_behind apex.now nsecs.now place d }
+{
+    if place + 1 < nsecs.len() {
+        return nsecs[place + 1].owner();
+    }
+    apex
+}
+
+/// The place of the first NSEC that doesn't point to the one behind it, or at the end to the apex.
+fn first_unlinked(apex: &Name, nsecs: &[Nsec]) -> Option<usize>
+    ensures { MatchOption result (AreLinked apex.now nsecs.now (length nsecs.now)) (λ k. IsUnlinked apex.now nsecs.now k) }
+{
+    'each: for place in 0..nsecs.len() {
+        if *nsecs[place].next() != *owner_behind(apex, nsecs, place) {
+            return Some(place);
+        }
+    }
+    None
+}
+
+/// Refuses NSECs of which one doesn't point to the one behind it.
+fn check_links(zone: &ZoneTree, nsecs: &[Nsec]) -> Result<(), ChainError>
+    ensures { MatchResult result (λ _. AreLinked zone.now.apex nsecs.now (length nsecs.now)) (λ e. Breaks zone.now nsecs.now e) }
+{
+    match first_unlinked(zone.apex(), nsecs) {
+        Some(place) => Err(ChainError::Unlinked(place)),
+        None => Ok(()),
+    }
+}
+
+/// Refuses NSECs of which one is unfounded, or doesn't point to the one behind it.
+fn check_nsecs(zone: &ZoneTree, alloc: Global, nsecs: &[Nsec]) -> Result<(), ChainError>
+    requires { tree_error zone.now.apex zone.now.records ≡ None }
+    ensures { MatchResult result (λ _. AreSound zone.now nsecs.now) (λ e. Breaks zone.now nsecs.now e) }
+{
+    match first_unfounded(zone, alloc, nsecs)? {
+        Some(index) => Err(ChainError::Unfounded(index)),
+        None => check_links(zone, nsecs),
+    }
+}
+
+/// Decides whether the chain of a zone is whole.
+pub(crate) fn checked(zone: &ZoneTree, alloc: Global, nsecs: &[Nsec]) -> Result<(), ChainError>
+    requires zone { tree_error zone.now.apex zone.now.records ≡ None }
+    requires sorted { AreSorted nsecs.now }
+    ensures { MatchResult result (λ _. IsChained zone.now nsecs.now) (λ e. Breaks zone.now nsecs.now e) }
+{
+    match first_unlisted(zone, alloc, nsecs, zone.records())? {
+        Some(index) => Err(ChainError::Unlisted(index)),
+        None => check_nsecs(zone, alloc, nsecs),
+    }
+}

@@ -1,0 +1,89 @@
+//! The hashes of names (RFC 5155, section 5).
+
+ghost use Rattle.std.specs.Prelude.{◌≡◌, ◌++◌, ◌∷◌, ◌<◌, length, map, IfOk, OnOk};
+ghost use Rattle.std.specs.Char.{to_ascii_lowercase};
+ghost use Rattle.sha1.specs.Sha1.{sha1};
+ghost use Rattle.dns_name.specs.Labels.{AreLabels, folded, spell};
+ghost use Rattle.dns_denial.specs.Nsec3.{hash_of, iterated};
+
+use dns_name::{Labels, NameRef, OutOfMemory, push_lower};
+use sha1::Sha1;
+use std::alloc::Global;
+use std::marker::Model;
+
+/// The salt and the number of additional iterations of NSEC3PARAM, with hash algorithm 1, SHA-1.
+#[derive(Drop)]
+pub struct Hashing {
+    salt: Vec<u8>,
+    iterations: u16,
+}
+
+impl Model for Hashing {
+    ghost use Rattle.dns_denial.specs.Nsec3.{Hashing as State};
+
+    ghost Value = { State };
+
+    ghost view = { λ h. record { salt = h.salt.items; iterations = h.iterations } };
+}
+
+/// SHA-1 of octets and the salt behind them.
+fn salted(octets: &[u8], salt: &[u8]) -> [u8; 20]
+    ensures { result ≡ sha1 (octets.now ++ salt.now) }
+{
+    let mut hasher = Sha1::new();
+    hasher.update(octets);
+    hasher.update(salt);
+    hasher.finalize()
+}
+
+/// The hash of octets.
+fn iterated(salt: &[u8], octets: &[u8], iterations: u16) -> [u8; 20]
+    ensures { result ≡ iterated salt.now octets.now iterations }
+{
+    let mut hash = salted(octets, salt);
+    'rounds: for round in 0..iterations {
+        hash = salted(&hash, salt);
+    }
+    hash
+}
+
+/// Appends a label in lower case behind its length.
+fn push_canonical(label: &[u8], octets: &mut Vec<u8>) -> Result<(), OutOfMemory>
+    requires { length label.now < 256 }
+    ensures { OnOk result (octets.new.items ≡ octets.old.items ++ (length label.now ∷ map to_ascii_lowercase label.now)) }
+{
+    octets.push(label.len() as u8)?;
+    push_lower(label, octets)
+}
+
+/// The octets of labels in canonical form (RFC 4034, section 6.2).
+fn canonical(alloc: Global, labels: Labels<'_>) -> Result<Vec<u8>, OutOfMemory>
+    requires { AreLabels labels }
+    ensures { IfOk result (λ v. v.items ≡ spell (folded labels.entry)) }
+{
+    let mut left = labels;
+    let mut octets = Vec::new(alloc);
+    'labels: while let Some(label) = left.next() {
+        push_canonical(label, &mut octets)?;
+    }
+    octets.push(0)?;
+    Ok(octets)
+}
+
+impl Hashing {
+    /// Hashing with a salt.
+    pub fn new(salt: Vec<u8>, iterations: u16) -> Hashing
+        ensures { result ≡ record { salt = salt.items; iterations = iterations } }
+    {
+        Hashing { salt, iterations }
+    }
+
+    /// The hash of a name.
+    #[tactic(auto, unfolding(crate::specs::Nsec3::hash_of))]
+    pub fn hash(&self, alloc: Global, name: &NameRef<'_>) -> Result<[u8; 20], OutOfMemory>
+        ensures { IfOk result (λ o. o ≡ hash_of self.now name.now) }
+    {
+        let octets = canonical(alloc, name.labels())?;
+        Ok(iterated(self.salt.as_slice(), octets.as_slice(), self.iterations))
+    }
+}

@@ -1,0 +1,58 @@
+//! The last NSEC of a chain that isn't behind a name.
+
+ghost use Rattle.std.specs.Prelude.{◌≡◌, ℕ, List, ◌≤◌, ◌↔◌, length, true, false, IsTrue, IfOk, MatchOption};
+ghost use Rattle.std.specs.List.Sorted.{IsPartitionPoint};
+ghost use Rattle.dns_order.specs.Keys.{canonical_key};
+ghost use Rattle.dns_denial.specs.Nsecs.{AreSorted, is_up_to};
+ghost use Rattle.dns_denial.specs.Denials.{AllBehind, IsLast};
+
+use crate::nsec::Nsec;
+use dns_name::{NameRef, OutOfMemory};
+use dns_order::canonical_key;
+use std::alloc::Global;
+
+/// How many NSECs aren't behind the name of a key.
+fn count_up_to(nsecs: &[Nsec], key: &[u8]) -> usize
+    requires { AreSorted nsecs.now }
+    ensures bound { result ≤ length nsecs.now }
+    ensures point { (name : List (List ℕ)) → key.now ≡ canonical_key name → IsPartitionPoint (λ n. is_up_to name n ≡ true) (λ n. is_up_to name n ≡ false) nsecs.now result }
+{
+    nsecs.partition_point(|nsec| nsec.is_up_to(key))
+}
+
+/// The last NSEC that isn't behind the name of a key.
+fn last_up_to<'a>(nsecs: &'a [Nsec], key: &[u8]) -> Option<&'a Nsec>
+    requires { AreSorted nsecs.now }
+    ensures { (name : List (List ℕ)) → key.now ≡ canonical_key name → MatchOption result (AllBehind nsecs.now name) (λ n. IsLast nsecs.now name n.now) }
+{
+    let count = count_up_to(nsecs, key);
+    if count == 0 {
+        return None;
+    }
+    Some(&nsecs[count - 1])
+}
+
+/// The last NSEC that isn't behind a name.
+pub(crate) fn last_of<'a>(
+    nsecs: &'a [Nsec],
+    alloc: Global,
+    name: &NameRef<'_>,
+) -> Result<Option<&'a Nsec>, OutOfMemory>
+    requires { AreSorted nsecs.now }
+    ensures { IfOk result (λ o. MatchOption o (AllBehind nsecs.now name.now) (λ n. IsLast nsecs.now name.now n.now)) }
+{
+    let key = canonical_key(alloc, name)?;
+    Ok(last_up_to(nsecs, key.as_slice()))
+}
+
+/// Whether each NSEC is before those behind it.
+pub(crate) fn are_sorted(nsecs: &[Nsec]) -> bool
+    ensures { IsTrue result ↔ AreSorted nsecs.now }
+{
+    'each: for place in 1..nsecs.len() {
+        if !nsecs[place - 1].is_before(&nsecs[place]) {
+            return false;
+        }
+    }
+    true
+}

@@ -1,0 +1,51 @@
+-- A zone with the chain of its NSEC records, and the NSECs of a reply.
+use Rattle.std.specs.Prelude.{ℕ, ◌≡◌, Bool, true, List, [], ◌∷◌, ◌++◌, Option, Some, None}
+use Rattle.std.specs.List.{AllByRecursion, Contains}
+use Rattle.dns_message.specs.declared.record.Record.{Record}
+use Rattle.dns_zone.specs.Owned.{ZoneState}
+use Rattle.dns_denial.specs.Accepted.{is_accepted}
+use Rattle.dns_denial.specs.Denials.{AllBehind, CanBeDenied, HasNoZone, IsLast}
+use Rattle.dns_denial.specs.Nsecs.{NsecState}
+use Rattle.dns_denial.specs.Validation.{shown_wildcard}
+
+pub record SignedState : Type 0 where
+  pub zone : ZoneState
+  pub nsecs : List NsecState
+
+abbrev pub one_of : Option NsecState → List NsecState
+one_of None = []
+one_of (Some n) = n ∷ []
+
+-- the first and the second NSEC, where they are
+abbrev pub proved_by : Option NsecState → Option NsecState → List NsecState
+proved_by a b = one_of a ++ one_of b
+
+-- What a name server replies for a name is accepted with them (RFC 4035, section 5.4).
+abbrev pub AreAccepted : SignedState → ℕ → List (List ℕ) → List NsecState → Type 0
+AreAccepted s t name ns = CanBeDenied s.zone name t → is_accepted s.zone ns t name ≡ true
+
+-- No other zone's are among them.
+abbrev pub AreOfZone : SignedState → List NsecState → Type 0
+AreOfZone s ns = (n : NsecState) → Contains ns n → Contains s.nsecs n
+
+-- NSECs that are accepted, and the zone's
+pub record Proves (s : SignedState) (t : ℕ) (name : List (List ℕ)) (ns : List NsecState) : Type 0 where
+  pub accepted : AreAccepted s t name ns
+  pub of_zone : AreOfZone s ns
+
+-- ---- what is chosen
+
+abbrev pub head_of : List Record → Option Record
+head_of [] = None
+head_of (r ∷ rs) = Some r
+
+-- the last NSEC that is not behind a name, where there is one
+abbrev pub IsOne : List NsecState → List (List ℕ) → Option NsecState → Option NsecState → Type 0
+IsOne ns name None b = AllBehind ns name
+IsOne ns name (Some n) b = IsLast ns name n × (b ≡ None)
+
+-- and the last that is not behind the wildcard which that one shows
+abbrev pub IsTwo : List NsecState → List (List ℕ) → Option NsecState → Option NsecState → Type 0
+IsTwo ns name None b = HasNoZone ns name
+IsTwo ns name (Some n) None = ⊥
+IsTwo ns name (Some n) (Some m) = IsLast ns name n × IsLast ns (shown_wildcard n name) m

@@ -1,0 +1,128 @@
+//! Rows of signed zones.
+
+use crate::zones::next_records;
+use dns_denial::{Chain, Hashing, Nsec};
+use dns_name::{Name, NameRef};
+use dns_route::matches_are_suffixes;
+use dns_signed_zone::{Proofs, SignedZone};
+use dns_zone_tree::ZoneTree;
+use rows_table::{Calls, Row, RowError};
+
+/// What a signed zone chooses.
+pub(crate) struct Signed;
+
+impl Calls for Signed {
+    fn answer(&self, call: &str, row: &mut Row<'_>) -> Result<(), RowError> {
+        match call {
+            "nsec_hash" => hashed(row),
+            "signed" => signed(row),
+            _ => return Err(RowError::NoSuchCall),
+        }
+        Ok(())
+    }
+}
+
+/// The hash of a name, with the salt and the iterations of the words before it.
+fn hashed(row: &mut Row<'_>) {
+    let salt = row.vector();
+    let iterations = row.number();
+    let name = row.name();
+    match Hashing::new(salt, iterations).hash(row.alloc(), &name) {
+        Ok(hash) => row.hexadecimal(&hash),
+        Err(_) => row.fail(RowError::OutOfMemory),
+    }
+}
+
+/// Makes the zone of the next words, or says why it is refused.
+fn signed(row: &mut Row<'_>) {
+    match Name::from_octets(row.vector()) {
+        Ok(apex) => {
+            let records = next_records(row);
+            match ZoneTree::new(row.alloc(), apex, records) {
+                Ok(zone) => chained(row, zone),
+                Err(error) => row.debug(&error),
+            }
+        }
+        Err(_) => row.fail(RowError::OutOfForm),
+    }
+}
+
+/// Gives the zone the chain of the next word, or says where that isn't whole.
+fn chained(row: &mut Row<'_>, zone: ZoneTree) {
+    match Chain::of(next_chain(row)) {
+        Some(chain) => match SignedZone::new(row.alloc(), zone, chain) {
+            Ok(zone) => asked(row, &zone),
+            Err(error) => row.debug(&error),
+        },
+        None => row.say("unsorted"),
+    }
+}
+
+/// The NSECs of the next word, which commas part.
+fn next_chain(row: &mut Row<'_>) -> Vec<Nsec> {
+    let mut nsecs = Vec::new(row.alloc());
+    for part in row.word().split(',') {
+        push_nsec(row, &mut nsecs, part);
+    }
+    nsecs
+}
+
+/// Appends the NSEC of an owner, a next name and types.
+fn push_nsec(row: &mut Row<'_>, nsecs: &mut Vec<Nsec>, word: &str) {
+    let (owner, rest) = word.split_once('/').unwrap_or((word, ""));
+    let (next, types) = rest.split_once('/').unwrap_or((rest, ""));
+    let owner = row.name_of(owner).to_owned(row.alloc());
+    let next = row.name_of(next).to_owned(row.alloc());
+    let types = types_of(row, types);
+    if let (Ok(owner), Ok(next)) = (owner, next) {
+        match Nsec::new(row.alloc(), owner, next, types) {
+            Ok(nsec) => row.keep(nsecs.push(nsec)),
+            Err(_) => row.fail(RowError::OutOfMemory),
+        }
+    }
+}
+
+/// Types, which plus signs part.
+fn types_of(row: &mut Row<'_>, word: &str) -> Vec<u16> {
+    let mut types = Vec::new(row.alloc());
+    for part in word.split('+') {
+        let rtype = row.number_of(part);
+        row.keep(types.push(rtype));
+    }
+    types
+}
+
+/// How many questions the next word says, and what denies each: a name and a type.
+fn asked(row: &mut Row<'_>, zone: &SignedZone) {
+    let questions: u8 = row.number();
+    for _ in 0..questions {
+        let name = row.name();
+        let rtype = row.number();
+        denied(row, zone, &name, rtype);
+    }
+}
+
+/// What denies a name or a type at it.
+fn denied(row: &mut Row<'_>, zone: &SignedZone, name: &NameRef<'_>, rtype: u16) {
+    matches_are_suffixes();
+    if !name.ends_with(&zone.zone().apex().for_ref()) {
+        row.say("outside");
+        return;
+    }
+    match zone.proofs(row.alloc(), name, rtype) {
+        Ok(proofs) => proofs_said(row, &proofs),
+        Err(_) => row.fail(RowError::OutOfMemory),
+    }
+}
+
+/// The owners of NSECs.
+fn proofs_said(row: &mut Row<'_>, proofs: &Proofs<'_>) {
+    match proofs.first {
+        Some(nsec) => row.hexadecimal(nsec.owner().as_slice()),
+        None => row.say("-"),
+    }
+    match proofs.second {
+        Some(nsec) => row.hexadecimal(nsec.owner().as_slice()),
+        None => row.say("-"),
+    }
+}
