@@ -1,4 +1,5 @@
-/* Decides about one query and rewrites one reply many times over, for bench/embed. usage: embed both|decide|handle COUNT */
+/* Decides about one query and rewrites one reply many times over, for bench/embed. The reply is read from octets, or built.
+ * usage: embed read|built|decide|handle COUNT */
 #include <nutscythe.h>
 
 #include <stdio.h>
@@ -12,12 +13,14 @@ static const uint8_t answer[] = "\x12\x34\x85\x00\x00\x01\x00\x01\x00\x00\x00\x0
 
 int main(int argc, char **argv)
 {
-    const char *what = argc > 1 ? argv[1] : "both";
+    static const uint8_t address[] = {192, 0, 2, 1};
+    const char *what = argc > 1 ? argv[1] : "read";
     uint64_t count = argc > 2 ? strtoull(argv[2], 0, 10) : 1000, sum = 0;
     uint32_t verdict = strcmp(what, "handle") == 0 ? 9 : 1;
-    bool both = strcmp(what, "both") == 0;
+    bool is_read = strcmp(what, "read") == 0, is_built = strcmp(what, "built") == 0;
     uint8_t reply[512];
     nutscythe_settings settings = NUTSCYTHE_NONE;
+    nutscythe_reply built = NUTSCYTHE_NONE;
     nutscythe_rule rule = {0};
     nutscythe_origin origin = {.size = 1232, .octets = {127, 0, 0, 1}, .family = 4, .over = 1};
     if (nutscythe_settings_new(true, true, &settings) != NUTSCYTHE_DONE)
@@ -30,11 +33,16 @@ int main(int argc, char **argv)
         uint32_t status = nutscythe_decide(&settings, &origin, verdict, query, sizeof query - 1, reply, sizeof reply, &len, &rule);
         if (status != (verdict == 1 ? NUTSCYTHE_ASK : NUTSCYTHE_OUT_OF_RANGE))
             return 2;
-        if (both && nutscythe_rewrite(&rule, answer, sizeof answer - 1, reply, sizeof reply, &len) != NUTSCYTHE_REPLY)
+        if (is_built && (nutscythe_reply_begin(query, sizeof query - 1, 0, true, &built) != NUTSCYTHE_DONE ||
+                         nutscythe_reply_add(&built, NUTSCYTHE_ANSWER, query + 12, 13, 1, 1, 60, address, 4) != NUTSCYTHE_DONE ||
+                         nutscythe_reply_write(&built, &rule, reply, sizeof reply, &len) != NUTSCYTHE_REPLY))
+            return 4;
+        if (is_read && nutscythe_rewrite(&rule, answer, sizeof answer - 1, reply, sizeof reply, &len) != NUTSCYTHE_REPLY)
             return 3;
         sum += len;
     }
     printf("%llu\n", (unsigned long long)sum);
+    nutscythe_free(&built);
     nutscythe_free(&settings);
     return 0;
 }
