@@ -1,5 +1,5 @@
-/* A server of one thread over UDP and TCP by poll: the layers and the connections of the library, and a service of its own
- * that answers A queries with 192.0.2.1.
+/* A server of one thread over UDP and TCP by poll: the layers, the connections and the book of the library, which has as many slots
+ * as there are CLIENTS, and a service of its own that answers A queries with 192.0.2.1.
  * usage: server PORT MESSAGES (it ends after so many messages, or after 10 s without one) */
 #include <nutscythe.h>
 
@@ -24,8 +24,11 @@ struct client {
 
 static const char text[] = "strict yes\nedns yes\nsecret 30313233343536373839616263646566\ndgram 1232 5000\n"
                            "stream 5000 2000 10 32 yes\nbudget 1000 1000\n";
-static uint8_t message[65536], answer[65536], reply[65536], frame[65538];
+static uint8_t message[65536], reply[65536], frame[65538];
 static nutscythe_settings settings = NUTSCYTHE_NONE;
+static nutscythe_book book = NUTSCYTHE_NONE;
+static nutscythe_reader query = NUTSCYTHE_NONE;
+static nutscythe_reply built = NUTSCYTHE_NONE;
 static struct client clients[CLIENTS];
 static struct pollfd ready[2 + CLIENTS];
 static long left;
@@ -37,37 +40,21 @@ static uint64_t now_ms(clockid_t clock)
     return (uint64_t)t.tv_sec * 1000 + (uint64_t)t.tv_nsec / 1000000;
 }
 
-/* Where the question of a message with a single plain question ends, else 0. */
-static size_t question_end(size_t len)
+/* The service: an A record for each A query, else no record. The reply is built, and rewritten by the rule of its request. */
+static uint32_t serve(const nutscythe_rule *rule, size_t len, size_t *reply_len)
 {
-    size_t at = 12;
-    if (message[4] != 0 || message[5] != 1)
-        return 0;
-    while (at < len && message[at] != 0) {
-        if (message[at] > 63)
-            return 0;
-        at += message[at] + 1u;
-    }
-    return at + 5 <= len ? at + 5 : 0;
-}
-
-/* The service: an A record for each A query, else no record; 0 if it fails, since the question can't be read. */
-static size_t serve(size_t len)
-{
-    static const uint8_t record[] = {0xc0, 12, 0, 1, 0, 1, 0, 0, 0, 60, 0, 4, 192, 0, 2, 1};
-    size_t end = question_end(len);
-    if (end == 0)
-        return 0;
-    memcpy(answer, message, end);
-    answer[2] = (uint8_t)((message[2] & 0x79) | 0x84);
-    answer[3] = 0;
-    memset(answer + 6, 0, 6);
-    if (message[end - 4] == 0 && message[end - 3] == 1) {
-        answer[7] = 1;
-        memcpy(answer + end, record, sizeof record);
-        end += sizeof record;
-    }
-    return end;
+    static const uint8_t address[] = {192, 0, 2, 1};
+    uint8_t question[259];
+    size_t question_len = 0;
+    uint32_t section = NUTSCYTHE_ANSWER, status;
+    if (nutscythe_message_read(message, len, &query) != NUTSCYTHE_DONE ||
+        nutscythe_message_next(&query, question, sizeof question, &question_len, &section) != NUTSCYTHE_DONE ||
+        section != NUTSCYTHE_QUESTION)
+        return nutscythe_refuse(rule, message, len, 1, reply, sizeof reply, reply_len);
+    status = nutscythe_reply_begin(message, len, 0, true, &built);
+    if (status == NUTSCYTHE_DONE && question[question_len - 4] == 0 && question[question_len - 3] == 1)
+        status = nutscythe_reply_add(&built, NUTSCYTHE_ANSWER, question, question_len - 4, 1, 1, 60, address, sizeof address);
+    return status == NUTSCYTHE_DONE ? nutscythe_reply_write(&built, rule, reply, sizeof reply, reply_len) : status;
 }
 
 /* How many octets of reply are to be sent for the message, or 0. */
@@ -82,11 +69,8 @@ static size_t decide(const struct sockaddr_in *from, size_t len, bool is_stream)
     uint32_t status =
         is_stream ? nutscythe_decide(&settings, &origin, 1, message, len, reply, sizeof reply, &reply_len, &rule)
                   : nutscythe_datagram(&settings, &origin, 1, message, len, reply, sizeof reply, &reply_len, &rule);
-    if (status == NUTSCYTHE_ASK) {
-        size_t answer_len = serve(len);
-        status = answer_len ? nutscythe_rewrite(&rule, answer, answer_len, reply, sizeof reply, &reply_len)
-                            : nutscythe_refuse(&rule, message, len, 1, reply, sizeof reply, &reply_len);
-    }
+    if (status == NUTSCYTHE_ASK)
+        status = serve(&rule, len, &reply_len);
     return status == NUTSCYTHE_REPLY ? reply_len : 0;
 }
 
@@ -105,6 +89,7 @@ static void end(int i)
     close(ready[i].fd);
     ready[i].fd = -1;
     nutscythe_free(&clients[i - 2].connection);
+    nutscythe_book_call(&book, NUTSCYTHE_RELEASE);
 }
 
 static void offer(int link)
@@ -114,11 +99,15 @@ static void offer(int link)
     int fd = accept(link, (struct sockaddr *)&from, &from_len), i = 2;
     if (fd < 0)
         return;
-    while (i < 2 + CLIENTS && ready[i].fd >= 0)
-        i++;
-    if (i == 2 + CLIENTS ||
-        nutscythe_connection_open(&settings, now_ms(CLOCK_MONOTONIC), &clients[i - 2].connection) != NUTSCYTHE_DONE) {
+    if (nutscythe_book_call(&book, NUTSCYTHE_ADMIT) != NUTSCYTHE_DONE) {
         close(fd);
+        return;
+    }
+    while (ready[i].fd >= 0)
+        i++;
+    if (nutscythe_connection_open(&settings, now_ms(CLOCK_MONOTONIC), &clients[i - 2].connection) != NUTSCYTHE_DONE) {
+        close(fd);
+        nutscythe_book_call(&book, NUTSCYTHE_RELEASE);
         return;
     }
     clients[i - 2].from = from;
@@ -194,6 +183,7 @@ int main(int argc, char **argv)
         ready[i] = (struct pollfd){.fd = i < 2 ? socket(AF_INET, i ? SOCK_STREAM : SOCK_DGRAM, 0) : -1, .events = POLLIN};
     setsockopt(ready[1].fd, SOL_SOCKET, SO_REUSEADDR, &on, sizeof on);
     if (nutscythe_settings_read((const uint8_t *)text, sizeof text - 1, &settings, &refusal) != NUTSCYTHE_DONE ||
+        nutscythe_book_open(&settings, &book) != NUTSCYTHE_DONE ||
         bind(ready[0].fd, (struct sockaddr *)&at, sizeof at) || bind(ready[1].fd, (struct sockaddr *)&at, sizeof at) ||
         listen(ready[1].fd, CLIENTS)) {
         perror("server");
@@ -212,6 +202,9 @@ int main(int argc, char **argv)
     for (int i = 2; i < 2 + CLIENTS; i++)
         if (ready[i].fd >= 0)
             end(i);
+    nutscythe_free(&built);
+    nutscythe_free(&query);
+    nutscythe_free(&book);
     nutscythe_free(&settings);
     return 0;
 }

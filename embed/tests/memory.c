@@ -37,6 +37,8 @@ static const uint8_t notify[] = "\x12\x34\x24\x00\x00\x01\x00\x00\x00\x00\x00\x0
 static const uint8_t response[] = "\x12\x34\x80\x00\x00\x00\x00\x00\x00\x00\x00\x00";
 static const char text[] = "strict yes\ndeny 192.0.2.9\nsecret 30313233343536373839616263646566\n";
 
+static const uint8_t text_data[240];
+
 static int none;
 
 /* The status, which is one of two or NO_MEMORY, or NO_HANDLE behind that. */
@@ -76,6 +78,30 @@ static int calls(void)
     memset(reply, 7, sizeof reply);
     if (call(nutscythe_rewrite(&rule, answer, sizeof answer - 1, reply, sizeof reply, &len), NUTSCYTHE_REPLY) != NUTSCYTHE_REPLY)
         assert(len == 99 && reply[0] == 7);
+    nutscythe_reply built = NUTSCYTHE_NONE;
+    nutscythe_reader reader = NUTSCYTHE_NONE;
+    nutscythe_book book = NUTSCYTHE_NONE;
+    uint32_t section = 9, request = 0;
+    if (call(nutscythe_reply_begin(query, sizeof query - 1, 0, true, &built), NUTSCYTHE_DONE))
+        assert(built.at == NULL);
+    call(nutscythe_reply_add(&built, NUTSCYTHE_ANSWER, query + 12, 13, 16, 1, 60, text_data, sizeof text_data), NUTSCYTHE_DONE);
+    call(nutscythe_reply_option(&built, 15, text_data, 200), NUTSCYTHE_DONE);
+    len = 99;
+    memset(reply, 7, sizeof reply);
+    if (call(nutscythe_reply_write(&built, &rule, reply, sizeof reply, &len), NUTSCYTHE_REPLY) != NUTSCYTHE_REPLY)
+        assert(len == 99 && reply[0] == 7);
+    if (call(nutscythe_message_read(answer, sizeof answer - 1, &reader), NUTSCYTHE_DONE))
+        assert(reader.at == NULL);
+    for (int i = 0; i < 2; i++) {
+        uint32_t status = nutscythe_message_next(&reader, octets, sizeof octets, &len, &section);
+        none += status == NUTSCYTHE_NO_MEMORY;
+        assert(none > 0 || (status == NUTSCYTHE_DONE && section == (uint32_t)i));
+    }
+    call(nutscythe_book_open(&settings, &book), NUTSCYTHE_DONE);
+    call(nutscythe_book_call(&book, NUTSCYTHE_ADMIT), NUTSCYTHE_DONE);
+    nutscythe_free(&book);
+    nutscythe_free(&reader);
+    nutscythe_free(&built);
     call(nutscythe_refuse(&rule, query, sizeof query - 1, 2, reply, sizeof reply, &len), NUTSCYTHE_REPLY);
     call(nutscythe_connection_open(&settings, 1, &connection), NUTSCYTHE_DONE);
     call(nutscythe_connection_feed(&connection, (const uint8_t *)"\0\14" "abcdefghijkl", 14), NUTSCYTHE_DONE);
@@ -83,6 +109,9 @@ static int calls(void)
     none += status == NUTSCYTHE_NO_MEMORY;
     assert(none > 0 || status == NUTSCYTHE_DONE);
     call(nutscythe_connection_offer(&connection, 3, answer, sizeof answer - 1), NUTSCYTHE_DONE);
+    if (call(nutscythe_connection_give(&connection, 3, &request, NUTSCYTHE_HEAR_BEGIN, 0, answer, sizeof answer - 1), NUTSCYTHE_DONE))
+        assert(request == 0);
+    call(nutscythe_configure(&settings, &connection), NUTSCYTHE_DONE);
     nutscythe_free(&connection);
     nutscythe_free(&copy);
     nutscythe_free(&settings);

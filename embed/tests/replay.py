@@ -2,17 +2,22 @@
 
 usage: replay.py LIBRARY FOLDER..
 
-Each FOLDER has scripts NAME.script, and beside each NAME.stdout or NAME.script.stdout. The library decides, rewrites, frames, queues
-and tells the time. Here stand the service that plays a script's rules, the slots, and when a client begins and ends. Left out, and
-counted: scripts that are refused, that have another service than rules, that reconfigure, that answer with padded OPT records (which
-a service in C can't give) or with feedback over a connection. It ends with 1 where something differs.
+Each FOLDER has scripts NAME.script, and beside each NAME.stdout or NAME.script.stdout; with a file WORD that says `steps` it has
+those of `nutscythe steps`, in which clients hear of configurations by `look` alone. The library decides, builds and rewrites replies,
+frames, queues, keeps transactions and slots, and tells the time. Each built reply is also made as octets and rewritten, and compared.
+Here stand the service that plays a script's rules, and when a client begins and ends. Left out, and counted: scripts that are
+refused, and those of another service than rules (upstreams, a zone). It ends with 1 where something differs.
 """
 import collections
 import ctypes as c
 import os
 import sys
 
-DONE, REPLY, NOTHING, ASK, RESPONSE, DROPPED, CLOSE = range(7)
+DONE, REPLY, NOTHING, ASK, RESPONSE, DROPPED, CLOSE, HELD = range(8)
+TOO_LONG = 21
+HEARD = {"": 0, "begin": 1, "end": 2, "idle": 3}
+FAILURE = 4
+ADMIT, RELEASE, SHUTDOWN = range(3)
 SETTINGS = {"strict", "edns", "secret", "deny", "dgram", "stream", "budget"}
 RCODES = {"formerr": 1, "servfail": 2, "notimp": 4, "refused": 5}
 VERDICTS = {"ok": 0, "notauth": 1, "other": 2}
@@ -72,6 +77,12 @@ class Library:
         if status != DONE:
             raise ValueError(f"{name}: status {status}")
 
+    def is_reply(self, name, *values):
+        """Stops unless the call writes a reply."""
+        status = self.call(name, *values)
+        if status != REPLY:
+            raise ValueError(f"{name}: status {status}")
+
 
 # ---- the service
 
@@ -125,19 +136,33 @@ def begun(message, rcode, answers):
     return octets
 
 
-def played(message, word):
-    """The reply of one ANSWER, or the response code of its error, or None."""
-    kind, _, number = word.rpartition("+")[2].partition(":")
-    number = int(number or 0)
-    if kind in RCODES:
-        return RCODES[kind]
-    if kind in ("pend", "begin", "end", "idle"):
-        return None
-    if kind == "blank":
-        return bytes(3) + bytes([number]) + bytes(8)
-    answers = {"rcode": [], "fill": [(0, bytes(number))], "live": [(number, b"")]}[kind]
-    octets = begun(message, number if kind == "rcode" else 0, answers)
-    return octets if len(octets) <= MOST else RCODES["servfail"]
+def records_of(kind, number):
+    """The answer records of a reply, as TTL and data, and the options."""
+    return {"rcode": ([], []), "fill": ([(0, bytes(number))], []), "live": ([(number, b"")], []), "opt": ([], [bytes(number)])}[kind]
+
+
+class Item:
+    """What one poll gives: what is heard, and a reply as its octets, its parts, or the response code of an error."""
+
+    def __init__(self, message, word):
+        feedback, _, reply = word.rpartition("+")
+        if word.partition(":")[0] in HEARD:
+            feedback, reply = word, ""
+        name, _, number = feedback.partition(":")
+        self.heard, self.timeout, self.octets, self.parts, self.error = HEARD[name], int(number or 0), None, None, None
+        kind, _, number = reply.partition(":")
+        number = int(number or 0)
+        if kind in RCODES:
+            self.error = RCODES[kind]
+        elif kind == "blank":
+            self.octets = bytes(3) + bytes([number]) + bytes(8)
+        elif kind:
+            answers, options = records_of(kind, number)
+            rcode = number if kind == "rcode" else 0
+            octets = begun(message, rcode, answers)
+            self.octets, self.parts = None if options else octets, (rcode, answers, options)
+            if len(octets) + sum(15 + len(data) for data in options) > MOST:
+                self.heard, self.error = 0, RCODES["servfail"]
 
 
 # ---- a script
@@ -146,37 +171,38 @@ class Script:
     """Its settings as text, its rules and verdicts, and its events."""
 
     def __init__(self, text):
-        self.settings, self.rules, self.verdicts, self.events = [], [], [], []
-        self.idle, self.limit, self.is_said = 30000, 100, "yes"
+        self.settings, self.config, self.rules, self.verdicts, self.events = [], {}, [], [], []
         for line in text.split(b"\n"):
             words = line.removesuffix(b"\r").decode("latin-1").split(" ")
             words = [word for word in words if word]
             if words and not words[0].startswith("#"):
                 self.read(words)
-        has_feedback = any(word.split(":")[0].split("+")[0] in ("begin", "end", "idle") for _, answers in self.rules for word in answers)
-        if has_feedback and any(event[0] == "offer" for event in self.events):
-            raise LeftOut("feedback over a connection")
 
     def read(self, words):
         """One line."""
         kind, more = words[0], words[1:]
-        if kind in SETTINGS:
+        if kind in ("dgram", "stream", "budget"):
+            self.config[kind] = more
+        elif kind in SETTINGS:
             self.settings.append(" ".join(words))
-            if kind == "stream":
-                self.idle, self.limit, self.is_said = min(max(int(more[0]), 200), 2592000000), min(max(int(more[3]), 1), 100000), more[4]
         elif kind == "rule":
-            if any("opt:" in word for word in more[1:]):
-                raise LeftOut("a padded OPT record")
             self.rules.append((None if more[0] == "*" else more[0].lower().encode(), more[1:]))
         elif kind == "notify":
             self.verdicts.append((more[0].lower().encode(), len(more) - 2, VERDICTS[more[-1]]))
         elif kind in ("upstream", "zone", "record"):
             raise LeftOut("another service")
-        elif kind in ("reconfigure", "look"):
-            raise LeftOut(kind)
+        elif kind in ("reconfigure", "shutdown"):
+            self.events.append(words)
         else:
-            number = [str(int(words[3]))] if len(words) > 3 else []
-            self.events.append(words[:3] + number + words[4:])
+            self.events.append(words[:3] + [str(int(words[3]))] + words[4:])
+
+    def text(self):
+        """The lines of its settings, as they are now."""
+        return "\n".join(self.settings + [" ".join([kind, *words]) for kind, words in self.config.items()]).encode()
+
+    def idle(self):
+        """For how long a connection may be idle, as it is now."""
+        return min(max(int(self.config["stream"][0]), 200), 2592000000) if "stream" in self.config else 30000
 
     def answers_to(self, message):
         """The answers of the first rule that fits."""
@@ -192,31 +218,39 @@ class Script:
         return next(((pends, verdict) for name, pends, verdict in self.verdicts if name == asked), (0, 1))
 
 
+class Request:
+    """A request: what its polls give, as what is heard and the reply as it is sent; and how far it is."""
+
+    def __init__(self, given):
+        self.given, self.polls, self.state, self.held, self.is_done = given, 0, c.c_uint32(0), None, False
+
+
 class Client:
-    """An exchange, or a connection with its handle; its requests, each as what its polls give."""
+    """An exchange, or a connection with its handle; and its requests."""
 
     def __init__(self, words, is_connection):
         address, self.port = words[4], int(words[5])
         octets = bytes.fromhex(address) if len(address) == 32 else bytes(int(part) for part in address.split("."))
         self.octets, self.family = octets.ljust(16, b"\0"), 6 if len(octets) == 16 else 4
         self.handle = Handle() if is_connection else None
-        self.phase, self.why, self.requests, self.polls = "open", None, [], []
+        self.number, self.phase, self.why, self.requests = words[3], "open", None, []
+        self.idle, self.version = 0, 0
 
 
 class Play:
-    """One script, played."""
+    """One script, played: what happens to the server, and to its clients as they hear of it."""
 
-    def __init__(self, library, script):
-        self.library, self.script, self.clients, self.held, self.lines = library, script, {}, set(), []
-        self.settings, self.is_over = Handle(), False
-        text = "\n".join(script.settings).encode()
-        library.is_done("settings_read", text, self.settings, LineRefusal())
+    def __init__(self, library, script, by_looks):
+        self.library, self.script, self.by_looks = library, script, by_looks
+        self.clients, self.lines, self.settings, self.book, self.reply = {}, [], Handle(), Handle(), Handle()
+        self.version, self.is_over = 0, False
+        library.is_done("settings_read", script.text(), self.settings, LineRefusal())
+        library.is_done("book_open", self.settings, self.book)
         for words in script.events:
             getattr(self, words[0])(words, int(words[1]), int(words[2]))
-        for client in self.clients.values():
-            if client is not None and client.handle is not None:
-                library.is_done("free", client.handle)
-        library.is_done("free", self.settings)
+        handles = [client.handle for client in self.clients.values() if client is not None and client.handle is not None]
+        for handle in [*handles, self.settings, self.book, self.reply]:
+            library.is_done("free", handle)
 
     def say(self, *words):
         """One line of output."""
@@ -227,7 +261,7 @@ class Play:
     def decided(self, client, at, secs, message, verdict):
         """What is to be done about a message, the reply in the buffer, and the rule."""
         library, rule = self.library, Rule()
-        origin = Origin(at, secs, self.script.idle, (c.c_uint8 * 16)(*client.octets), client.port, client.family, 3)
+        origin = Origin(at, secs, client.idle, (c.c_uint8 * 16)(*client.octets), client.port, client.family, 3)
         name = "decide" if client.handle is not None else "datagram"
         status = library.call(name, self.settings, origin, verdict, message, library.room, library.length, rule)
         return status, library.written() if status == REPLY else None, rule
@@ -242,29 +276,39 @@ class Play:
             pends, verdict = 0, 0
             if any(self.decided(client, at, secs, message, other)[1] != reply for other in (1, 2)):
                 pends, verdict = self.script.verdict_on(cut)
-            self.add(client, [None] * pends + [self.decided(client, at, secs, message, verdict)[1]])
+            client.requests.append(Request([(0, 0, None)] * pends + [(0, 0, self.decided(client, at, secs, message, verdict)[1])]))
         elif status == ASK:
-            self.add(client, [self.sent(cut, rule, played(cut, word)) for word in self.script.answers_to(cut)],
-                     [word in RCODES for word in self.script.answers_to(cut)])
+            items = [Item(cut, word) if word != "pend" else None for word in self.script.answers_to(cut)]
+            client.requests.append(Request([(0, 0, None) if item is None else self.given(cut, rule, item) for item in items]))
         elif status != NOTHING:
             raise ValueError(f"decide: status {status}")
 
-    @staticmethod
-    def add(client, given, ends=()):
-        """A request, with what its polls give up to an error."""
-        last = ends.index(True) + 1 if True in ends else len(given)
-        client.requests.append(given[:last])
-        client.polls.append(0)
-
-    def sent(self, message, rule, reply):
-        """What is sent for what the service gave."""
+    def given(self, message, rule, item):
+        """What is heard of an item, and the reply that is sent for it."""
         library = self.library
-        if reply is None:
-            return None
-        status = (library.call("refuse", rule, message, reply, library.room, library.length) if isinstance(reply, int)
-                  else library.call("rewrite", rule, reply, library.room, library.length))
-        if status != REPLY:
-            raise ValueError(f"a reply: status {status}")
+        if item.error is not None:
+            library.is_reply("refuse", rule, message, item.error, library.room, library.length)
+            return FAILURE, 0, library.written()
+        reply = None
+        if item.octets is not None:
+            library.is_reply("rewrite", rule, item.octets, library.room, library.length)
+            reply = library.written()
+        if item.parts is not None:
+            built = self.built(message, rule, *item.parts)
+            if reply not in (None, built):
+                raise ValueError(f"built {built.hex()}, rewritten {reply.hex()}")
+            reply = built
+        return item.heard, item.timeout, reply
+
+    def built(self, message, rule, rcode, answers, options):
+        """A reply that is built."""
+        library = self.library
+        library.is_done("reply_begin", message, rcode, 0, self.reply)
+        for ttl, data in answers:
+            library.is_done("reply_add", self.reply, 1, b"\0", 65280, 1, ttl, data)
+        for data in options:
+            library.is_done("reply_option", self.reply, 12, data)
+        library.is_reply("reply_write", self.reply, rule, library.room, library.length)
         return library.written()
 
     # -- events
@@ -273,22 +317,22 @@ class Play:
         """A datagram came."""
         if words[3] not in self.clients and not self.is_over:
             client = self.clients[words[3]] = Client(words, False)
-            client.number = words[3]
             self.taken(client, at, secs, bytes.fromhex(words[6].replace("-", "")))
 
     def offer(self, words, at, _):
         """A connection is offered."""
-        number = words[3]
-        if number in self.clients or self.is_over:
+        number, library = words[3], self.library
+        if number in self.clients:
             return
-        if len(self.held) >= self.script.limit:
-            self.clients[number] = None
-            self.say("turned", number, self.script.is_said)
+        status = library.call("book_call", self.book, ADMIT)
+        if status != DONE:
+            if status != NOTHING:
+                self.clients[number] = None
+                self.say("turned", number, "yes" if status == CLOSE else "no")
             return
         client = self.clients[number] = Client(words, True)
-        client.number = number
-        self.held.add(number)
-        self.library.is_done("connection_open", self.settings, at, client.handle)
+        client.idle, client.version = self.script.idle(), self.version
+        library.is_done("connection_open", self.settings, at, client.handle)
 
     def of(self, words, *phases):
         """The connection that a line names, if it is in one of these phases."""
@@ -323,16 +367,34 @@ class Play:
     def turn(self, words, at, _):
         """A request is polled."""
         client, number = self.clients.get(words[3]), int(words[4])
-        if client is None or number >= len(client.requests):
+        if client is None or number >= len(client.requests) or client.requests[number].is_done:
             return
-        given, k = client.requests[number], client.polls[number]
-        client.polls[number] += 1
-        if k >= len(given) or given[k] is None:
+        request = client.requests[number]
+        if request.held is not None:
+            if self.gives(client, at, request, 0, 0, request.held) == DONE:
+                request.held = None
             return
+        request.polls += 1
+        request.is_done = request.polls > len(request.given)
+        heard, timeout, reply = (0, 0, None) if request.is_done else request.given[request.polls - 1]
+        request.is_done |= heard == FAILURE
         if client.handle is None:
-            self.say("datagram", client.number, given[k].hex())
-        elif self.library.call("connection_offer", client.handle, at, given[k]) not in (DONE, DROPPED):
-            raise ValueError("offer")
+            if reply is not None:
+                self.say("datagram", client.number, reply.hex())
+            return
+        if request.is_done and heard != FAILURE and request.state.value == 1:
+            heard = HEARD["end"]
+        if self.gives(client, at, request, heard, timeout, reply or b"") == HELD:
+            request.held = reply
+
+    def gives(self, client, at, request, heard, timeout, reply):
+        """A connection is given what a poll gave."""
+        if heard == HEARD["idle"]:
+            client.idle = timeout
+        status = self.library.call("connection_give", client.handle, at, request.state, heard, timeout, reply)
+        if status not in (DONE, DROPPED, HELD):
+            raise ValueError(f"give: status {status}")
+        return status
 
     def write(self, words, at, _):
         """The front frame was written."""
@@ -373,19 +435,45 @@ class Play:
 
     def release(self, words, _at, _secs):
         """A closed connection is gone."""
-        if self.of(words, "closed"):
-            self.held.discard(words[3])
+        client = self.of(words, "closed")
+        if client is not None:
+            client.phase = "released"
+            self.library.is_done("book_call", self.book, RELEASE)
 
-    def shutdown(self, _words, _at, _secs):
+    def all_hear(self, at):
+        """All clients look, unless they do so by events of their own."""
+        for number in sorted(self.clients, key=int) if not self.by_looks else []:
+            self.look([None, None, None, number], at, 0)
+
+    def reconfigure(self, words, at, _):
+        """The server has other configurations."""
+        if self.is_over:
+            return
+        self.script.config = {"dgram": words[3:5], "stream": words[5:10], **({"budget": words[10:]} if words[10:] else {})}
+        self.library.is_done("settings_read", self.script.text(), self.settings, LineRefusal())
+        self.library.is_done("configure", self.settings, self.book)
+        self.version += 1
+        self.all_hear(at)
+
+    def shutdown(self, _words, at, _secs):
         """The server shuts down."""
         self.is_over = True
-        for number in sorted(self.clients, key=int):
-            client = self.of([None, None, None, number], "open")
-            if client is not None:
-                self.wind_up(client, "shutdown")
+        self.library.is_done("book_call", self.book, SHUTDOWN)
+        self.all_hear(at)
+
+    def look(self, words, _at, _secs):
+        """A client hears of the configurations, if they are new to it, and of a shutdown."""
+        client = self.of(words, "open")
+        if client is None:
+            return
+        if client.version != self.version:
+            client.version, client.idle = self.version, self.script.idle()
+            self.library.is_done("configure", self.settings, client.handle)
+        if self.is_over:
+            self.wind_up(client, "shutdown")
 
 
-def judged(library, path):
+def judged(library, path, by_looks):
     """What became of a script: the same, or left out and why, or what differs."""
     name = path.removesuffix(".script")
     if os.path.exists(f"{name}.status") and open(f"{name}.status", encoding="ascii").read().strip() != "0":
@@ -393,7 +481,7 @@ def judged(library, path):
     wanted = next(it for it in (f"{name}.stdout", f"{path}.stdout") if os.path.exists(it))
     with open(path, "rb") as text, open(wanted, encoding="ascii") as it:
         try:
-            lines = Play(library, Script(text.read())).lines
+            lines = Play(library, Script(text.read()), by_looks).lines
         except LeftOut as why:
             return f"left out: {why}"
         wanted = it.read().splitlines()
@@ -409,9 +497,11 @@ def main():
     """All scripts of the folders."""
     library, found = Library(sys.argv[1]), collections.Counter()
     for folder in sys.argv[2:]:
-        for name in sorted(os.listdir(folder)):
+        names = sorted(os.listdir(folder))
+        by_looks = "WORD" in names and open(os.path.join(folder, "WORD"), encoding="ascii").read().strip() == "steps"
+        for name in names:
             if name.endswith(".script"):
-                found[judged(library, os.path.join(folder, name))] += 1
+                found[judged(library, os.path.join(folder, name), by_looks)] += 1
     print("scripts:", ", ".join(f"{count} {what}" for what, count in sorted(found.items())))
     sys.exit("differs" in found or not found["the same"])
 

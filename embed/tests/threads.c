@@ -1,4 +1,4 @@
-/* Eight threads, each with a copy of the settings. usage: threads COUNT */
+/* Eight threads, each with a copy of the settings and replies of its own. usage: threads COUNT */
 #include <nutscythe.h>
 
 #undef NDEBUG
@@ -17,6 +17,7 @@ static long count;
 static void *work(void *word)
 {
     nutscythe_settings *settings = word;
+    nutscythe_reply built = NUTSCYTHE_NONE;
     nutscythe_origin origin = {.secs = 1700000000, .size = 1232, .octets = {192, 0, 2, 7}, .port = 53, .family = 4, .over = 1};
     for (long i = 0; i < count; i++) {
         uint8_t reply[512];
@@ -27,7 +28,13 @@ static void *work(void *word)
         /* 192.0.2.7 is denied without a cookie over UDP: it is sent a truncated reply, and others are passed on */
         assert(status == (i % 2 ? NUTSCYTHE_ASK : NUTSCYTHE_REPLY));
         assert(i % 2 || (reply[2] & 2));
+        if (status == NUTSCYTHE_ASK) {
+            assert(nutscythe_reply_begin(query, sizeof query - 1, 0, true, &built) == NUTSCYTHE_DONE);
+            assert(nutscythe_reply_add(&built, NUTSCYTHE_ANSWER, query + 12, 13, 1, 1, 60, origin.octets, 4) == NUTSCYTHE_DONE);
+            assert(nutscythe_reply_write(&built, &rule, reply, sizeof reply, &len) == NUTSCYTHE_REPLY && len == 56);
+        }
     }
+    nutscythe_free(&built);
     nutscythe_free(settings);
     return NULL;
 }

@@ -42,6 +42,7 @@ static void nulls(nutscythe_settings *s, nutscythe_connection *c)
 {
     uint8_t reply[600];
     size_t len = 77;
+    uint32_t request = 0, section = 9;
     uint64_t deadline = 7;
     nutscythe_rule rule = {.id = 3};
     nutscythe_line_refusal refusal = {.line = 9};
@@ -80,7 +81,55 @@ static void nulls(nutscythe_settings *s, nutscythe_connection *c)
     is(nutscythe_connection_deadline(NULL, 1, &deadline), NUTSCYTHE_NULL_POINTER);
     is(nutscythe_connection_deadline(c, 1, NULL), NUTSCYTHE_NULL_POINTER);
     is(nutscythe_connection_tick(NULL, 1), NUTSCYTHE_NULL_POINTER);
+    is(nutscythe_connection_give(NULL, 1, &request, 1, 0, seed, 3), NUTSCYTHE_NULL_POINTER);
+    is(nutscythe_connection_give(c, 1, NULL, 1, 0, seed, 3), NUTSCYTHE_NULL_POINTER);
+    is(nutscythe_reply_begin(seed, seed_len, 0, true, NULL), NUTSCYTHE_NULL_POINTER);
+    is(nutscythe_reply_add(NULL, 1, seed + 12, 13, 1, 1, 60, seed, 4), NUTSCYTHE_NULL_POINTER);
+    is(nutscythe_reply_option(NULL, 15, seed, 2), NUTSCYTHE_NULL_POINTER);
+    is(nutscythe_reply_write(NULL, &rule, reply, sizeof reply, &len), NUTSCYTHE_NULL_POINTER);
+    is(nutscythe_reply_write(&other, NULL, reply, sizeof reply, &len), NUTSCYTHE_NULL_POINTER);
+    is(nutscythe_reply_write(&other, &rule, reply, sizeof reply, NULL), NUTSCYTHE_NULL_POINTER);
+    is(nutscythe_message_read(seed, seed_len, NULL), NUTSCYTHE_NULL_POINTER);
+    is(nutscythe_message_next(NULL, reply, sizeof reply, &len, &section), NUTSCYTHE_NULL_POINTER);
+    is(nutscythe_message_next(&other, reply, sizeof reply, NULL, &section), NUTSCYTHE_NULL_POINTER);
+    is(nutscythe_message_next(&other, reply, sizeof reply, &len, NULL), NUTSCYTHE_NULL_POINTER);
+    is(nutscythe_book_open(NULL, &other), NUTSCYTHE_NULL_POINTER);
+    is(nutscythe_book_open(s, NULL), NUTSCYTHE_NULL_POINTER);
+    is(nutscythe_book_call(NULL, NUTSCYTHE_ADMIT), NUTSCYTHE_NULL_POINTER);
+    is(nutscythe_configure(NULL, c), NUTSCYTHE_NULL_POINTER);
+    is(nutscythe_configure(s, NULL), NUTSCYTHE_NULL_POINTER);
+    assert(request == 0 && section == 9);
     assert(other.at == NULL && len == 77 && deadline == 7 && rule.id == 3 && refusal.line == 9 && reply[0] == 7);
+}
+
+/* A reply that is built, out of order, too long, into a short buffer, and read again. */
+static void built(const nutscythe_rule *rule)
+{
+    static uint8_t much[65600], item[600];
+    size_t len = 0, item_len = 0;
+    uint32_t section = 9;
+    nutscythe_reply reply = NUTSCYTHE_NONE;
+    nutscythe_reader reader = NUTSCYTHE_NONE;
+    is(nutscythe_reply_begin(seed, seed_len, 3, true, &reply), NUTSCYTHE_DONE);
+    is(nutscythe_reply_add(&reply, NUTSCYTHE_AUTHORITY, seed + 12, 13, 16, 1, 60, seed, number() % 9), NUTSCYTHE_DONE);
+    is(nutscythe_reply_add(&reply, NUTSCYTHE_ANSWER, seed + 12, 13, 1, 1, 60, seed, 4), NUTSCYTHE_OUT_OF_RANGE);
+    is(nutscythe_reply_add(&reply, NUTSCYTHE_AUTHORITY, seed + 12, 13, 16, 1, 60, much, 65536), NUTSCYTHE_TOO_LONG);
+    is(nutscythe_reply_add(&reply, NUTSCYTHE_AUTHORITY, seed + 12, 13, 16, 1, 60, much, 65500), NUTSCYTHE_TOO_LONG);
+    is(nutscythe_reply_option(&reply, 12, much, 65500), NUTSCYTHE_TOO_LONG);
+    is(nutscythe_reply_write(&reply, rule, much, number() % 40, &len), NUTSCYTHE_NO_ROOM);
+    is(nutscythe_reply_add(&reply, NUTSCYTHE_ADDITIONAL, seed + 12, 13, 1, 1, 60, seed, 4), NUTSCYTHE_OUT_OF_RANGE);
+    is(nutscythe_reply_option(&reply, 12, NULL, 0), NUTSCYTHE_OUT_OF_RANGE);
+    uint8_t *exact = malloc(len);
+    is(nutscythe_reply_write(&reply, rule, exact, len, &len), NUTSCYTHE_REPLY);
+    is(nutscythe_message_read(exact, len - number() % 5, &reader), NUTSCYTHE_DONE);
+    is(nutscythe_message_next(&reader, item, 16, &item_len, &section), NUTSCYTHE_NO_ROOM);
+    assert(section == 9 && item_len == 17);
+    is(nutscythe_message_next(&reader, item, 17, &item_len, &section), NUTSCYTHE_DONE);
+    assert(section == NUTSCYTHE_QUESTION && item_len == 17 && memcmp(item, seed + 12, 17) == 0);
+    count(nutscythe_message_next(&reader, item, sizeof item, &item_len, &section));
+    free(exact);
+    nutscythe_free(&reader);
+    nutscythe_free(&reply);
 }
 
 /* Handles of another kind, or that hold nothing, and numbers out of range. */
@@ -88,6 +137,7 @@ static void wrong(nutscythe_settings *s, nutscythe_connection *c)
 {
     uint8_t reply[600];
     size_t len = 77;
+    uint32_t request = 1, section = 9, none_such = 3 + (uint32_t)number() % 99;
     uint64_t deadline = 7;
     nutscythe_rule rule = {.id = 3};
     nutscythe_line_refusal refusal = {.line = 9};
@@ -124,7 +174,26 @@ static void wrong(nutscythe_settings *s, nutscythe_connection *c)
     is(nutscythe_rewrite(&rule, seed, number() % 12, reply, sizeof reply, &len), NUTSCYTHE_UNREADABLE);
     is(nutscythe_refuse(&rule, seed, number() % 12, 2, reply, sizeof reply, &len), NUTSCYTHE_UNREADABLE);
     is(nutscythe_rewrite(&rule, NULL, 99, reply, sizeof reply, &len), NUTSCYTHE_UNREADABLE);
+    is(nutscythe_connection_give(not_connection, 1, &request, 2, 0, seed, 4), NUTSCYTHE_NO_HANDLE);
+    is(nutscythe_reply_add(not_settings, 1, seed + 12, 13, 1, 1, 60, seed, 4), NUTSCYTHE_NO_HANDLE);
+    is(nutscythe_reply_option(not_connection, 15, seed, 2), NUTSCYTHE_NO_HANDLE);
+    is(nutscythe_reply_write(not_settings, &rule, reply, sizeof reply, &len), NUTSCYTHE_NO_HANDLE);
+    is(nutscythe_message_next(not_connection, reply, sizeof reply, &len, &section), NUTSCYTHE_NO_HANDLE);
+    is(nutscythe_book_open(not_settings, &none), NUTSCYTHE_NO_HANDLE);
+    is(nutscythe_book_call(not_connection, NUTSCYTHE_ADMIT), NUTSCYTHE_NO_HANDLE);
+    is(nutscythe_configure(not_settings, c), NUTSCYTHE_NO_HANDLE);
+    is(nutscythe_configure(s, not_connection), NUTSCYTHE_NO_HANDLE);
+    is(nutscythe_connection_give(c, 1, &none_such, 0, 0, seed, 4), NUTSCYTHE_OUT_OF_RANGE);
+    is(nutscythe_connection_give(c, 1, &request, 5 + (uint32_t)number() % 99, 0, seed, 4), NUTSCYTHE_OUT_OF_RANGE);
+    is(nutscythe_reply_begin(seed, seed_len, 16 + (uint32_t)number() % 99, true, &none), NUTSCYTHE_OUT_OF_RANGE);
+    is(nutscythe_reply_begin(seed, number() % 12, 0, true, &none), NUTSCYTHE_UNREADABLE);
+    is(nutscythe_reply_add(&none, number() % 2 ? 0 : 4, seed + 12, 13, 1, 1, 60, seed, 4), NUTSCYTHE_OUT_OF_RANGE);
+    is(nutscythe_reply_add(&none, 1, seed + 12, number() % 2 ? 12 : 14, 1, 1, 60, seed, 4), NUTSCYTHE_UNREADABLE);
+    is(nutscythe_message_read(seed, number() % 12, &none), NUTSCYTHE_UNREADABLE);
+    is(nutscythe_book_call(&none, 3 + (uint32_t)number() % 99), NUTSCYTHE_OUT_OF_RANGE);
+    assert(request == 1 && section == 9 && none_such > 2);
     assert(len == 77 && deadline == 7 && rule.id == 3 && refusal.line == 9 && reply[0] == 7 && none.at == NULL);
+    built(&rule);
     is(nutscythe_settings_read((const uint8_t *)"strict yes\n\nsort yes\n", 21, &none, &refusal), NUTSCYTHE_BAD_LINE);
     assert(none.at == NULL && refusal.line == 3 && refusal.reason == 1);
     is(nutscythe_free(&none), NUTSCYTHE_DONE);
@@ -151,6 +220,14 @@ static void stream(nutscythe_connection *c, uint64_t at)
     assert(taken == 1 && len == seed_len && memcmp(query, seed, len) == 0);
     for (int i = 0; i < 3; i++)
         is(nutscythe_connection_offer(c, at, seed, seed_len), i < 2 ? NUTSCYTHE_DONE : NUTSCYTHE_DROPPED);
+    uint32_t request = NUTSCYTHE_PLAIN;
+    is(nutscythe_connection_give(c, at, &request, NUTSCYTHE_HEAR_BEGIN, 0, seed, seed_len), NUTSCYTHE_HELD);
+    assert(request == NUTSCYTHE_IN_TRANSACTION);
+    is(nutscythe_connection_tick(c, at + 1000), NUTSCYTHE_DONE);
+    is(nutscythe_connection_give(c, at, &request, NUTSCYTHE_HEAR_END, 0, seed, seed_len), NUTSCYTHE_DROPPED);
+    is(nutscythe_connection_give(c, at, &request, NUTSCYTHE_HEAR_FAILURE, 0, NULL, 9), NUTSCYTHE_DONE);
+    is(nutscythe_connection_give(c, at, &request, NUTSCYTHE_HEAR_BEGIN, 0, seed, seed_len), NUTSCYTHE_NOTHING);
+    assert(request == NUTSCYTHE_FAILED);
     for (int i = 0; i < 3; i++) {
         is(nutscythe_connection_front(c, query, sizeof query, &len), i < 2 ? NUTSCYTHE_DONE : NUTSCYTHE_NOTHING);
         assert(i == 2 || (len == frame_len && memcmp(query, frame, len) == 0));
@@ -159,6 +236,8 @@ static void stream(nutscythe_connection *c, uint64_t at)
     is(nutscythe_connection_tick(c, at + 999), NUTSCYTHE_DONE);
     is(nutscythe_connection_tick(c, at + 1000), NUTSCYTHE_CLOSE);
 }
+
+static nutscythe_handle held = NUTSCYTHE_NONE;
 
 /* A message of exact size through all that takes one, into a buffer of exact size. */
 static void hostile(nutscythe_settings *s, const uint8_t *message, size_t size)
@@ -176,6 +255,19 @@ static void hostile(nutscythe_settings *s, const uint8_t *message, size_t size)
     status = count(nutscythe_rewrite(&rule, message, size, room, space, &len));
     assert(status != NUTSCYTHE_REPLY || len <= space);
     count(nutscythe_refuse(&rule, message, size, 2, room, space, &len));
+    uint32_t section = 0;
+    if (count(nutscythe_reply_begin(message, size, (uint32_t)(number() % 16), number() % 2, &held)) == NUTSCYTHE_DONE) {
+        size_t at = size > 12 ? 12 + number() % (size - 12) : size;
+        count(nutscythe_reply_add(&held, 1 + number() % 3, message + at, number() % (size - at + 1), (uint16_t)number(), 1, 60,
+                                  message, size));
+        count(nutscythe_reply_option(&held, (uint16_t)number(), message, size));
+        status = count(nutscythe_reply_write(&held, &rule, room, space, &len));
+        assert(status != NUTSCYTHE_REPLY || (len <= space && (room[2] & 0x80)));
+    }
+    for (status = count(nutscythe_message_read(message, size, &held)); status == NUTSCYTHE_DONE;) {
+        status = count(nutscythe_message_next(&held, room, space, &len, &section));
+        assert(status != NUTSCYTHE_DONE || (len <= space && section <= 3));
+    }
     free(room);
 }
 
@@ -189,7 +281,7 @@ int main(int argc, char **argv)
     is(nutscythe_settings_read((const uint8_t *)text, sizeof text - 1, &settings, &refusal), NUTSCYTHE_DONE);
     is(nutscythe_connection_open(&settings, 1, &connection), NUTSCYTHE_DONE);
     nulls(&settings, &connection);
-    for (long i = 0; i < calls / 30; i++)
+    for (long i = 0; i < calls / 60; i++)
         wrong(&settings, &connection);
     for (uint64_t i = 0; i < 100; i++)
         stream(&connection, 1000 * i);
@@ -209,6 +301,7 @@ int main(int argc, char **argv)
     }
     if (file != NULL)
         fclose(file);
+    nutscythe_free(&held);
     nutscythe_free(&connection);
     nutscythe_free(&settings);
     printf("%ld messages; statuses", messages);

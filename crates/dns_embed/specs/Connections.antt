@@ -1,13 +1,16 @@
 -- A connection: the frames of its octets in order, each once (RFC 1035, section 4.2.2; RFC 7766, section 8), and its queue of
 -- replies. Each is a part of what the rule of one client (dns_session) does.
-use Rattle.std.specs.Prelude.{ℕ, ◌≡◌, ◌<◌, ◌≤◌, ◌++◌, ◌==◌, [], ◌∷◌, Bool, true, false, List, length, drop, slice_get, nat_lt, if◌then◌else◌, Option, Some, None}
+use Rattle.std.specs.Prelude.{ℕ, ◌≡◌, ◌<◌, ◌≤◌, ◌++◌, ◌==◌, ◌&&◌, [], ◌∷◌, Bool, true, false, List, length, drop, slice_get, nat_lt, if◌then◌else◌, Option, Some, None}
 use Rattle.circular_buffer.specs.Buffer.{buffer}
 use Rattle.dns_base.specs.Header.{header_of}
 use Rattle.dns_base.specs.Wire.{wire}
 use Rattle.dns_replies.specs.ErrorReply.{error_reply}
+use Rattle.dns_framing.specs.Budget.{rebudgeted}
 use Rattle.dns_framing.specs.Frames.{framed, frames}
 use Rattle.dns_framing.specs.Invoker.{offered}
+use Rattle.dns_framing.specs.Timers.{is_expired}
 use Rattle.dns_framing.specs.declared.invoker.ConnectionInvoker.{ConnectionInvoker}
+use Rattle.dns_service.specs.Config.{Connection as Config}
 use Rattle.dns_embed.specs.declared.connection.Connection.{Connection}
 use Rattle.dns_embed.specs.declared.connection.Next.{Next}
 use Rattle.dns_embed.specs.declared.connection.Next.TheVariants.{Waits, Query, NoRoom, Response, Short}
@@ -34,21 +37,33 @@ offering at c m = record c { invoker = offered (record c.invoker { at = at }) m 
 abbrev pub refusing : ℕ → Connection → List ℕ → Connection
 refusing at c o = record (offering at c (framed (wire (error_reply o 1)))) { timer = at }
 
+-- another configuration holds from now on; the queue's bound stays, and so do the mark and the number spent
+abbrev pub configured : Config → Connection → Connection
+configured config c = record c {
+  write_timeout = config.response_write_timeout;
+  invoker = record c.invoker { idle_timeout = config.idle_timeout; budget = rebudgeted config c.invoker.budget };
+}
+
+-- it was idle for too long (RFC 7766, section 6.2.3), and no transaction holds it open
+abbrev pub is_idle : ℕ → Connection → Bool
+is_idle now c = (c.transactions == 0) && is_expired c.timer c.invoker.idle_timeout now
+
 -- all but the frames are as they were
 pub record SameQueue (c d : Connection) : Type 0 where
   pub timer : d.timer ≡ c.timer
   pub write_timeout : d.write_timeout ≡ c.write_timeout
   pub invoker : d.invoker ≡ c.invoker
+  pub transactions : d.transactions ≡ c.transactions
 
 -- the first that waits is taken, or none waits, or it stays if the buffer is too short
 abbrev pub NextIs : ℕ → Connection → Connection → List ℕ → List ℕ → Next → Type 0
 NextIs at c d before after Waits = (waiting c ≡ []) × (waiting d ≡ []) × SameQueue c d × (after ≡ before)
 NextIs at c d before after (Query n) = (f : List ℕ) × (waiting c ≡ f ∷ waiting d) × (12 ≤ length f) × ((header_of f).qr ≡ false) × (n ≡ length f) × (n ≤ length before)
-    × (after ≡ f ++ drop n before) × (d.timer ≡ at) × (d.write_timeout ≡ c.write_timeout) × (d.invoker ≡ c.invoker)
+    × (after ≡ f ++ drop n before) × (d.timer ≡ at) × (d.write_timeout ≡ c.write_timeout) × (d.invoker ≡ c.invoker) × (d.transactions ≡ c.transactions)
 NextIs at c d before after (NoRoom n) = (f : List ℕ) × (fs : List (List ℕ)) × (waiting c ≡ f ∷ fs) × (waiting d ≡ waiting c) × (12 ≤ length f) × ((header_of f).qr ≡ false)
     × (n ≡ length f) × (length before < n) × SameQueue c d × (after ≡ before)
 NextIs at c d before after Response = (f : List ℕ) × (waiting c ≡ f ∷ waiting d) × (12 ≤ length f) × ((header_of f).qr ≡ true) × (after ≡ before) × (d.timer ≡ at)
-    × (d.write_timeout ≡ c.write_timeout) × (d.invoker ≡ (refusing at c f).invoker)
+    × (d.write_timeout ≡ c.write_timeout) × (d.invoker ≡ (refusing at c f).invoker) × (d.transactions ≡ c.transactions)
 NextIs at c d before after Short = (f : List ℕ) × (waiting c ≡ f ∷ waiting d) × (length f < 12) × SameQueue c d × (after ≡ before)
 
 -- a frame less waits to be written

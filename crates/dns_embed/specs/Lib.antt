@@ -4,4 +4,7 @@ pub use Rattle.dns_session.specs.Frames
 pub use Rattle.dns_session.specs.Timers
 pub mod Embedded
 pub mod SettingsText
+pub mod Transactions
 pub mod Connections
+pub mod Reading
+pub mod Turned

@@ -5,15 +5,17 @@ ghost use Rattle.circular_buffer.specs.Buffer.{buffer};
 ghost use Rattle.dns_framing.specs.Budget.{unspent};
 ghost use Rattle.dns_framing.specs.Frames.{framed};
 ghost use Rattle.dns_framing.specs.Invoker.{finds_room, offered};
-ghost use Rattle.dns_framing.specs.Timers.{deadline, is_expired};
+ghost use Rattle.dns_framing.specs.Timers.{deadline};
 ghost use Rattle.dns_service.specs.declared.invoker.InvokerStatus.{InvokerStatus as TheStatus};
-ghost use Rattle.dns_embed.specs.Connections.{NextIs, WriteIs, at_moment, offering, refusing, waiting};
+ghost use Rattle.dns_embed.specs.Connections.{NextIs, WriteIs, at_moment, configured, is_idle, offering, refusing, waiting};
+ghost use Rattle.dns_embed.specs.Transactions.{fate_of, frame_in, giving, invoker_given, invoker_told};
 
 use crate::buffer::put;
+use crate::transactions::{Heard, enqueue, frame, frame_in, hear, recount};
 use dns_base::Message;
-use dns_framing::{ConnectionInvoker, Framer, IdleTimer, frame_of};
+use dns_framing::{ConnectionInvoker, Framer, IdleTimer, frame_of, is_in_transaction};
 use dns_name::OptRcode;
-use dns_service::{ConnectionConfig, Octets, OutOfMemory};
+use dns_service::{ConnectionConfig, Enqueued, InvokerStatus, Octets, OutOfMemory};
 use dns_session::refused;
 use std::alloc::Global;
 
@@ -44,7 +46,7 @@ pub enum Written {
 }
 
 /// What is kept of a connection: the next frame, if it was looked at and not taken; the octets in no frame yet; the idle
-/// timer; how long a write may take in ms; and the queue of replies with its budget.
+/// timer; how long a write may take in ms; the queue of replies with its budget; and how many requests are in a transaction.
 #[derive(Drop)]
 pub struct Connection {
     front: Option<Octets>,
@@ -52,6 +54,7 @@ pub struct Connection {
     timer: IdleTimer,
     write_timeout: u64,
     invoker: ConnectionInvoker,
+    transactions: u64,
 }
 
 impl Connection {
@@ -74,6 +77,7 @@ impl Connection {
             status = TheStatus.Normal;
             held = None;
           };
+          transactions = 0;
         }) }
     {
         let invoker = ConnectionInvoker::new(alloc, at, config)?;
@@ -83,7 +87,17 @@ impl Connection {
             timer: IdleTimer::new(at),
             write_timeout: config.response_write_timeout(),
             invoker,
+            transactions: 0,
         })
+    }
+
+    /// Takes a new configuration. The queue's bound stays, and so does what was spent of the response budget.
+    pub fn configure(&mut self, config: &ConnectionConfig)
+        ensures { self.new ≡ configured config.now self.old }
+    {
+        self.invoker.idle_timeout = config.idle_timeout();
+        self.invoker.budget.reconfigure(config);
+        self.write_timeout = config.response_write_timeout();
     }
 
     /// Octets of its stream came. If there is no memory all stays.
@@ -128,6 +142,7 @@ impl Connection {
         ensures timer { self.new.timer ≡ self.old.timer }
         ensures write_timeout { self.new.write_timeout ≡ self.old.write_timeout }
         ensures invoker { self.new.invoker ≡ self.old.invoker }
+        ensures transactions { self.new.transactions ≡ self.old.transactions }
     {
         if self.front.is_some() {
             return Ok(());
@@ -183,6 +198,34 @@ impl Connection {
         Ok(true)
     }
 
+    /// What the service of a request gave, at a moment in ms: what it tells is heard, and then the octets of its reply, at most
+    /// 65,535, are queued as a frame, where there is room. No octets are no reply. It says how far the request is then, and what
+    /// became of its reply: one that is Held is given again, with nothing to be heard. If there is no memory all stays.
+    pub fn give(
+        &mut self,
+        alloc: Global,
+        at: u64,
+        status: InvokerStatus,
+        heard: Heard,
+        reply: &[u8],
+    ) -> Result<(InvokerStatus, Option<Enqueued>), OutOfMemory>
+        requires { length reply.now ≤ 65535 }
+        ensures status { IfOk result (λ g. g.0 ≡ (invoker_given at status heard (frame_in reply.now) self.old).status) }
+        ensures fate { IfOk result (λ g. g.1 ≡ fate_of (frame_in reply.now) (invoker_told at status heard self.old)) }
+        ensures ok { OnOk result (self.new ≡ giving at status heard (frame_in reply.now) self.old) }
+        ensures err { OnErr result (self.new ≡ self.old) }
+    {
+        let frame = frame_in(alloc, reply)?;
+        self.invoker.set_moment(at);
+        self.invoker.begin(status);
+        hear(&mut self.invoker, heard);
+        let fate = enqueue(&mut self.invoker, frame);
+        let after = self.invoker.status;
+        let (was, now) = (is_in_transaction(status), is_in_transaction(after));
+        self.transactions = recount(self.transactions, was, now);
+        Ok((after, fate))
+    }
+
     /// How many frames wait to be written.
     pub fn queued(&self) -> usize
         ensures { result ≡ length self.now.invoker.queue.items }
@@ -225,12 +268,12 @@ impl Connection {
             .idle_timeout_deadline(self.invoker.idle_timeout, now)
     }
 
-    /// Whether it was idle for too long by now.
+    /// Whether it was idle for too long by now, and no request is in a transaction.
     pub fn is_idle(&self, now: u64) -> bool
-        ensures { result ≡ is_expired self.now.timer self.now.invoker.idle_timeout now }
+        ensures { result ≡ is_idle now self.now }
     {
-        self.timer
-            .idle_timeout_expired(self.invoker.idle_timeout, now)
+        let timeout = self.invoker.idle_timeout;
+        self.transactions == 0 && self.timer.idle_timeout_expired(timeout, now)
     }
 
     /// For how many ms it may be idle.
@@ -239,17 +282,4 @@ impl Connection {
     {
         self.invoker.idle_timeout
     }
-}
-
-/// A message behind its length in two octets (RFC 1035, section 4.2.2).
-fn frame(alloc: Global, message: &[u8]) -> Result<Octets, OutOfMemory>
-    requires { length message.now ≤ 65535 }
-    ensures { IfOk result (λ o. o ≡ framed message.now) }
-{
-    let len = message.len();
-    let mut octets = Vec::with_capacity(alloc, len + 2)?;
-    octets.push((len / 256) as u8)?;
-    octets.push((len % 256) as u8)?;
-    octets.extend_from_slice(message)?;
-    Ok(Octets::from_vec(octets))
 }

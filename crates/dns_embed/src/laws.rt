@@ -12,6 +12,7 @@ ghost use Rattle.dns_middleware.specs.Wrapped.{passed};
 ghost use Rattle.dns_embed.specs.declared.action.Action.TheVariants.{Ask};
 ghost use Rattle.dns_embed.specs.declared.rule.ReplyRule.{ReplyRule};
 ghost use Rattle.dns_embed.specs.Embedded.{IsDecided, answers, rewrite_by};
+ghost use Rattle.dns_embed.specs.Turned.{GivesAsTurned, GivesHeldAsTurned};
 
 /// Whoever asks a service as was decided, and sends its reply rewritten, sends what these layers answer round a service that
 /// gives this reply to the request as they pass it on.
@@ -19,4 +20,11 @@ pub fn asked_and_rewritten_is_answered()
     ensures { (s : Settings) (v : Result (Unit {0}) NotifyError) (r : Req (Unit {0})) (rule : ReplyRule) (m : Msg)
         (svc : Req (Unit {0}) → ℕ → Answer) → IsDecided s v r (Ask rule) → ((k : ℕ) → svc (passed s r) k ≡ once (reply m) k)
         → (k : ℕ) → answers s v svc r k ≡ own_reply (rewrite_by rule m) k }
+{}
+
+/// Whoever gives a connection what its request's service gave turns it as the rules for one client do (dns_session's `turn`): what is
+/// queued, spent, held and told is the same, whatever the answers of other requests are.
+pub fn what_is_given_is_a_turn()
+    ensures item { GivesAsTurned }
+    ensures held { GivesHeldAsTurned }
 {}

@@ -1,7 +1,8 @@
 -- A reply that a service builds (RFC 1035, section 4.1): the query's identifier, opcode, RD and questions, and records by section.
-use Rattle.std.specs.Prelude.{ℕ, ◌≡◌, ◌<◌, ◌==◌, Bool, List, length, Option, Some, None, Result, Ok, Err, if◌then◌else◌}
+use Rattle.std.specs.Prelude.{ℕ, ◌≡◌, ◌<◌, ◌≤◌, ◌⊎◌, ◌+◌, ◌++◌, ◌==◌, Bool, List, length, Option, Some, None, Result, Ok, Err, if◌then◌else◌}
 use Rattle.dns_name.specs.declared.error.ParseError.{ParseError}
 use Rattle.dns_name.specs.declared.error.ParseError.TheVariants.{ShortInput}
+use Rattle.dns_name.specs.Place.{four, two}
 use Rattle.dns_base.specs.declared.draft.Section.{Section}
 use Rattle.dns_base.specs.declared.draft.Section.TheVariants.{Answer, Authority, Additional}
 use Rattle.dns_base.specs.declared.error.PushError.{PushError}
@@ -11,6 +12,10 @@ use Rattle.dns_base.specs.CopiedRecord.{copied_record}
 use Rattle.dns_base.specs.Msg.{ResourceRecord}
 use Rattle.dns_base.specs.Replies.{error_to}
 use Rattle.dns_base.specs.Standing.{Standing, standing_at}
+use Rattle.dns_base.specs.Wire.{wire}
+use Rattle.dns_opt.specs.Reopened.{old_opt}
+use Rattle.dns_service.specs.WithOption.{optioned, with_option}
+use Rattle.dns_reply_builder.specs.declared.plain_record.PlainRecord.{PlainRecord}
 use Rattle.dns_reply_builder.specs.declared.reply_builder.AddError.{AddError}
 use Rattle.dns_reply_builder.specs.declared.reply_builder.AddError.TheVariants.{Unreadable, Order, TooLong, OutOfMemory}
 use Rattle.dns_reply_builder.specs.declared.reply_builder.ReplyBuilder.{ReplyBuilder}
@@ -84,3 +89,27 @@ AddsBuilt section o b stage c (Err OutOfMemory) = c ≡ b
 
 abbrev pub Adds : Section → List ℕ → ReplyBuilder → ReplyBuilder → Result (Unit {0}) AddError → Type 0
 Adds section o b c result = (stage_of c ≡ stage_onward section b) × AddsBuilt section o (built_of b) (stage_onward section b) (built_of c) result
+
+-- a record whose name and data are borrowed
+abbrev pub plain_record : PlainRecord → ResourceRecord
+plain_record r = record { owner = r.owner; rtype = r.rtype; class = r.class; ttl = r.ttl; rdata = r.rdata.now }
+
+-- type, class, TTL and the length of the data
+abbrev pub plain_head : ResourceRecord → List ℕ
+plain_head r = two r.rtype ++ (two r.class ++ (four r.ttl ++ two (length r.rdata)))
+
+-- a record that was read stands last in a section, whose stage was begun last; or it is refused
+abbrev pub AddsRecord : Section → ResourceRecord → Built → ℕ → Built → Result (Unit {0}) AddError → Type 0
+AddsRecord section r b stage c (Ok u) = (stage ≡ place_of section) × (c ≡ with_record section b r)
+AddsRecord section r b stage c (Err Unreadable) = ⊥
+AddsRecord section r b stage c (Err Order) = ((stage ≡ place_of section) → ⊥) × (c ≡ b)
+AddsRecord section r b stage c (Err TooLong) = PassesLimit (with_record section b r) × (c ≡ b)
+AddsRecord section r b stage c (Err OutOfMemory) = c ≡ b
+
+-- an option more: TooLong exactly if the option list would pass 65,535 octets, or the message its limit
+abbrev pub OptionAdded : ℕ → List ℕ → Built → Built → Result (Unit {0}) AddError → Type 0
+OptionAdded code d b c (Ok u) = (c ≡ record b { message = with_option b.message code d }) × (length (wire (optioned b.message code d)) ≤ b.limit)
+OptionAdded code d b c (Err Unreadable) = ⊥
+OptionAdded code d b c (Err Order) = ⊥
+OptionAdded code d b c (Err TooLong) = ((65535 < length (old_opt b.message).options + 4 + length d) ⊎ (b.limit < length (wire (optioned b.message code d)))) × (c ≡ b)
+OptionAdded code d b c (Err OutOfMemory) = c ≡ b

@@ -1,16 +1,20 @@
 //! A reply that a service builds, record by record.
 
-ghost use Rattle.std.specs.Prelude.{◌≡◌, IfOk};
+ghost use Rattle.std.specs.Prelude.{◌≡◌, ◌≤◌, length, IfOk};
 ghost use Rattle.dns_base.specs.Standing.{GivesParsed};
 ghost use Rattle.dns_embed.specs.Embedded.{rewrite_by};
-ghost use Rattle.dns_reply_builder.specs.Replying.{Adds, AddsBuilt, Begins, PushesAt, Told, built_of, record_alone, stage_of, stage_onward};
+ghost use Rattle.dns_reply_builder.specs.Replying.{Adds, AddsBuilt, AddsRecord, Begins, OptionAdded, PushesAt, Told, built_of, plain_record, record_alone, stage_of, stage_onward};
 
+use crate::plain_record::PlainRecord;
 use dns_base::{
-    AdditionalBuilder, AnswerBuilder, AuthorityBuilder, CopiedRecord, Header, Message,
-    MessageBuilder, OutOfMemory, ParseError, PushError, Rcode, Section, record_in,
+    AdditionalBuilder, AnswerBuilder, AuthorityBuilder, BuildDataError, ComposeRecord,
+    CopiedRecord, Header, Message, MessageBuilder, OptionCode, OutOfMemory, ParseError, PushError,
+    Rcode, Section, record_in,
 };
 use dns_embed::ReplyRule;
 use dns_layers::Rewrite;
+use dns_opt::UnknownOptDataRef;
+use dns_service::add_edns_option;
 use std::alloc::Global;
 
 /// The reply to a query, at the section of records that was begun last.
@@ -110,32 +114,67 @@ impl ReplyBuilder {
         ensures added { AddsBuilt section octets.now (built_of self.old) (stage_of self.old) (built_of self.new) result }
     {
         match record_alone(alloc, octets) {
-            Ok(copied) => self.push(alloc, section, copied),
+            Ok(copied) => self.push(alloc, section, copied.get()),
             Err(ParseError::OutOfMemory) => Err(AddError::OutOfMemory),
             Err(_) => Err(AddError::Unreadable),
         }
     }
 
+    /// Adds a record whose name and data are borrowed to a section: the one that was begun last, or a later one, which is begun by it
+    /// even if the record is refused. Else a refused call leaves the reply.
+    pub fn add_plain(
+        self,
+        alloc: Global,
+        section: Section,
+        added: &PlainRecord<'_>,
+    ) -> (ReplyBuilder, Result<(), AddError>)
+        requires { length added.now.rdata.now ≤ 65535 }
+        ensures stage { stage_of result.0 ≡ stage_onward section self }
+        ensures added { AddsRecord section (plain_record added.now) (built_of self) (stage_onward section self) (built_of result.0) result.1 }
+    {
+        let mut reply = self.onward(section);
+        let pushed = reply.push(alloc, section, added);
+        (reply, pushed)
+    }
+
+    /// Adds an option behind those of the reply's OPT record, which becomes its last additional record (RFC 6891, section 6.1.1).
+    /// The additional section is begun by it. A refused call leaves what was built. TooLong if the option list would pass 65,535
+    /// octets, or the reply.
+    pub fn add_option(
+        self,
+        alloc: Global,
+        code: OptionCode,
+        octets: &[u8],
+    ) -> (ReplyBuilder, Result<(), AddError>)
+        ensures stage { stage_of result.0 ≡ 2 }
+        ensures added { OptionAdded code octets.now (built_of self) (built_of result.0) result.1 }
+    {
+        let mut reply = self.additional();
+        let added = push_option(alloc, &mut reply, code, octets);
+        (ReplyBuilder::Additional(reply), added)
+    }
+
     /// Adds a record to the section that was begun last, if it is this one.
-    fn push(
+    fn push<R: ComposeRecord>(
         &mut self,
         alloc: Global,
         section: Section,
-        copied: CopiedRecord,
+        added: &R,
     ) -> Result<(), AddError>
-        ensures { PushesAt section copied self.old self.new result }
+        requires { R.is_lawful added.now }
+        ensures { PushesAt section (R.resource added.now) self.old self.new result }
     {
         match self {
             ReplyBuilder::Answer(reply) => match section {
-                Section::Answer => told(reply.push(alloc, copied.get())),
+                Section::Answer => told(reply.push_composed(alloc, added)),
                 _ => Err(AddError::Order),
             },
             ReplyBuilder::Authority(reply) => match section {
-                Section::Authority => told(reply.push(alloc, copied.get())),
+                Section::Authority => told(reply.push_composed(alloc, added)),
                 _ => Err(AddError::Order),
             },
             ReplyBuilder::Additional(reply) => match section {
-                Section::Additional => told(reply.push(alloc, copied.get())),
+                Section::Additional => told(reply.push_composed(alloc, added)),
                 _ => Err(AddError::Order),
             },
         }
@@ -152,6 +191,25 @@ impl ReplyBuilder {
         let mut reply = self.additional();
         rule.rewrite(alloc, &mut reply)?;
         Ok(reply)
+    }
+}
+
+/// Adds an option behind those of a reply's OPT record.
+fn push_option(
+    alloc: Global,
+    reply: &mut AdditionalBuilder,
+    code: OptionCode,
+    octets: &[u8],
+) -> Result<(), AddError>
+    ensures { OptionAdded code octets.now reply.old reply.new result }
+{
+    let Ok(option) = UnknownOptDataRef::new(code, octets) else {
+        return Err(AddError::TooLong);
+    };
+    match add_edns_option(alloc, reply, &option) {
+        Ok(()) => Ok(()),
+        Err(BuildDataError::OutOfMemory) => Err(AddError::OutOfMemory),
+        Err(_) => Err(AddError::TooLong),
     }
 }
 

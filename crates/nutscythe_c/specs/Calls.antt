@@ -21,7 +21,7 @@ use Rattle.nutscythe_c.specs.declared.kept.Kept.TheVariants.{Settings as KeptSet
 use Rattle.nutscythe_c.specs.declared.origin.Origin.{Origin}
 use Rattle.nutscythe_c.specs.declared.rule.Rule.{Rule}
 use Rattle.nutscythe_c.specs.declared.status.Status.{Status}
-use Rattle.nutscythe_c.specs.declared.status.Status.TheVariants.{Done, Reply, Nothing, Ask, Response, Dropped, Close, NoMemory, NoHandle, OutOfRange, NoRoom, Unreadable, TooLong, NullPointer, BadLine}
+use Rattle.nutscythe_c.specs.declared.status.Status.TheVariants.{Done, Reply, Nothing, Ask, Response, Dropped, Close, Held, NoMemory, NoHandle, OutOfRange, NoRoom, Unreadable, TooLong, NullPointer, BadLine}
 use Rattle.nutscythe_c.specs.Objects.{OfFirst}
 use Rattle.nutscythe_c.specs.Rules.{rule_in}
 
@@ -34,6 +34,7 @@ number Ask = 3
 number Response = 4
 number Dropped = 5
 number Close = 6
+number Held = 7
 number NoMemory = 16
 number NoHandle = 17
 number OutOfRange = 18

@@ -5,3 +5,7 @@ pub mod Rules
 pub mod Calls
 pub mod Setters
 pub mod Streams
+pub mod Replies
+pub mod Readings
+pub mod Transactions
+pub mod Books

@@ -6,13 +6,13 @@ use Rattle.dns_events.specs.Config.{Connection as Config}
 use Rattle.dns_framing.specs.Budget.{unspent}
 use Rattle.dns_framing.specs.Frames.{framed}
 use Rattle.dns_framing.specs.Invoker.{finds_room}
-use Rattle.dns_framing.specs.Timers.{deadline, is_expired}
+use Rattle.dns_framing.specs.Timers.{deadline}
 use Rattle.dns_service.specs.declared.invoker.InvokerStatus.TheVariants.{Normal}
 use Rattle.dns_embed.specs.declared.connection.Connection.{Connection}
 use Rattle.dns_embed.specs.declared.connection.Next.TheVariants.{Waits, Query, NoRoom as TooShort, Response as Answered, Short}
 use Rattle.dns_embed.specs.declared.connection.Written.{Written}
 use Rattle.dns_embed.specs.declared.connection.Written.TheVariants as Write
-use Rattle.dns_embed.specs.Connections.{NextIs, WriteIs, at_moment, offering, waiting}
+use Rattle.dns_embed.specs.Connections.{NextIs, WriteIs, at_moment, is_idle, offering, waiting}
 use Rattle.nutscythe_c.specs.declared.kept.Kept.{Kept}
 use Rattle.nutscythe_c.specs.declared.kept.Kept.TheVariants.{Settings as KeptSettings, Connection as KeptConnection}
 use Rattle.nutscythe_c.specs.declared.status.Status.{Status}
@@ -34,6 +34,7 @@ fresh at config = record {
     status = Normal;
     held = None;
   };
+  transactions = 0;
 }
 
 abbrev pub Opens : ℕ → Settings → Option Kept → Option Kept → Status → Type 0
@@ -109,11 +110,11 @@ abbrev pub Expires : ℕ → Option Kept → ℕ → ℕ → Status → Type 0
 Expires now (Some (KeptConnection c)) before after t = (t ≡ Done) × (after ≡ deadline c.timer c.invoker.idle_timeout now)
 Expires now kept before after t = (t ≡ NoHandle) × (after ≡ before)
 
--- the connection is to be closed exactly if it was idle for too long
+-- the connection is to be closed exactly if it was idle for too long, and no transaction holds it open
 abbrev pub Ticked : Bool → Status → Type 0
 Ticked true t = t ≡ Close
 Ticked false t = t ≡ Done
 
 abbrev pub Ticks : ℕ → Option Kept → Status → Type 0
-Ticks now (Some (KeptConnection c)) t = Ticked (is_expired c.timer c.invoker.idle_timeout now) t
+Ticks now (Some (KeptConnection c)) t = Ticked (is_idle now c) t
 Ticks now kept t = t ≡ NoHandle

@@ -51,7 +51,7 @@ fn open_by(alloc: Global, settings: &mut Handle, at: u64, connection: &mut Handl
     };
     let status = match &*kept {
         Kept::Settings(made) => open(alloc, made, at, connection),
-        Kept::Connection(_) => Status::NoHandle,
+        _ => Status::NoHandle,
     };
     settings.put(kept);
     status
@@ -96,7 +96,7 @@ fn feed_at(alloc: Global, connection: &mut [Handle], octets: &[u8]) -> Status
     };
     let status = match &mut *kept {
         Kept::Connection(opened) => feed(alloc, opened, octets),
-        Kept::Settings(_) => Status::NoHandle,
+        _ => Status::NoHandle,
     };
     connection.put(kept);
     status
@@ -166,7 +166,7 @@ fn next_in(
     };
     let status = match &mut *kept {
         Kept::Connection(opened) => next(alloc, opened, at, query, query_len),
-        Kept::Settings(_) => Status::NoHandle,
+        _ => Status::NoHandle,
     };
     connection.put(kept);
     status
@@ -224,7 +224,7 @@ fn offer_at(alloc: Global, connection: &mut [Handle], at: u64, reply: &[u8]) -> 
     };
     let status = match &mut *kept {
         Kept::Connection(opened) => offer(alloc, opened, at, reply),
-        Kept::Settings(_) => Status::NoHandle,
+        _ => Status::NoHandle,
     };
     connection.put(kept);
     status
@@ -296,7 +296,7 @@ fn front_in(
     };
     let status = match &*kept {
         Kept::Connection(opened) => show(opened, frame, frame_len),
-        Kept::Settings(_) => Status::NoHandle,
+        _ => Status::NoHandle,
     };
     connection.put(kept);
     status
@@ -343,7 +343,7 @@ fn written_at(alloc: Global, connection: &mut [Handle], at: u64, took: u64) -> S
     };
     let status = match &mut *kept {
         Kept::Connection(opened) => wrote(opened, at, took),
-        Kept::Settings(_) => Status::NoHandle,
+        _ => Status::NoHandle,
     };
     connection.put(kept);
     status

@@ -117,7 +117,7 @@ fn exchange(
         Kept::Settings(settings) => exchange_from(
             alloc, settings, origin, verdict, datagram, reply, reply_len, rule,
         ),
-        Kept::Connection(_) => Status::NoHandle,
+        _ => Status::NoHandle,
     };
     settings.put(kept);
     status

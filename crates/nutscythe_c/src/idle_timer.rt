@@ -53,7 +53,7 @@ fn deadline_in(alloc: Global, connection: &mut Handle, now: u64, deadline: &mut 
             *deadline = opened.deadline(now);
             Status::Done
         }
-        Kept::Settings(_) => Status::NoHandle,
+        _ => Status::NoHandle,
     };
     connection.put(kept);
     status
@@ -84,7 +84,7 @@ fn tick_at(alloc: Global, connection: &mut [Handle], now: u64) -> Status
     };
     let status = match &*kept {
         Kept::Connection(opened) => idle(opened, now),
-        Kept::Settings(_) => Status::NoHandle,
+        _ => Status::NoHandle,
     };
     connection.put(kept);
     status

@@ -119,7 +119,7 @@ fn decide(
         Kept::Settings(settings) => decide_from(
             alloc, settings, origin, verdict, message, reply, reply_len, rule,
         ),
-        Kept::Connection(_) => Status::NoHandle,
+        _ => Status::NoHandle,
     };
     settings.put(kept);
     status

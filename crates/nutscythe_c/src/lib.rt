@@ -4,7 +4,12 @@
 //! - `nutscythe_raw_settings_new`, `_read`, `_cookies`, `_deny` and `_copy` make settings.
 //! - `nutscythe_raw_decide` and `nutscythe_raw_datagram` say what is to be done about a message, before any service is asked.
 //! - `nutscythe_raw_rewrite` and `nutscythe_raw_refuse` give the reply that is sent for a request that a service was asked.
-//! - `nutscythe_raw_connection_open`, `_feed`, `_next`, `_offer`, `_front`, `_written`, `_deadline` and `_tick` serve a stream.
+//! - `nutscythe_raw_reply_begin`, `_add`, `_option` and `_write` build a reply, which is rewritten without being read again.
+//! - `nutscythe_raw_message_read` and `_next` read a message item by item.
+//! - `nutscythe_raw_connection_open`, `_feed`, `_next`, `_offer`, `_give`, `_front`, `_written`, `_deadline` and `_tick` serve a
+//!   stream, with the transactions of its requests.
+//! - `nutscythe_raw_book_open` and `_call` keep the slots for connections, and `nutscythe_raw_configure` lets a connection or a book
+//!   take other configurations.
 //! - `nutscythe_raw_free` lets go of what a handle holds.
 //!
 //! Whatever outlives a call stands in a `Handle`, one word that C moves and never copies. Every other value is a number, a
@@ -25,6 +30,7 @@
 //! Want of memory at any call that takes some, and a block that is never freed.
 #![tactic(auto)]
 
+mod books;
 mod connections;
 mod datagrams;
 mod handle;
@@ -33,9 +39,12 @@ mod kept;
 mod layers;
 mod loose;
 mod origin;
+mod readings;
+mod replies;
 mod rule;
 mod settings;
 mod status;
+mod transactions;
 
 pub use handle::Handle;
 pub use kept::Kept;

@@ -154,7 +154,7 @@ fn set_cookies(alloc: Global, settings: &mut [Handle], secret: &[u8]) -> Status
     };
     let status = match &mut *kept {
         Kept::Settings(made) => set_secret(made, secret),
-        Kept::Connection(_) => Status::NoHandle,
+        _ => Status::NoHandle,
     };
     settings.put(kept);
     status
@@ -196,7 +196,7 @@ fn deny(alloc: Global, settings: &mut [Handle], ip: Option<IpAddr>) -> Status
     };
     let status = match &mut *kept {
         Kept::Settings(made) => push_denied(alloc, &mut made.denied, ip),
-        Kept::Connection(_) => Status::NoHandle,
+        _ => Status::NoHandle,
     };
     settings.put(kept);
     status
@@ -255,7 +255,7 @@ fn copy_to(alloc: Global, settings: &mut Handle, copy: &mut Handle) -> Status
     };
     let status = match &*kept {
         Kept::Settings(made) => hold_copy(alloc, made, copy),
-        Kept::Connection(_) => Status::NoHandle,
+        _ => Status::NoHandle,
     };
     settings.put(kept);
     status

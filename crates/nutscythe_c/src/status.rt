@@ -17,6 +17,8 @@ pub enum Status {
     Dropped = 5,
     /// The connection is to be closed.
     Close = 6,
+    /// A reply waits for room: it is given again, once a frame was written.
+    Held = 7,
     /// There was no memory.
     NoMemory = 16,
     /// A handle holds nothing, or something of another kind.

@@ -1,0 +1,52 @@
+-- What the service of a request gives to its connection: what is heard of it, and the frame of its reply.
+use Rattle.std.specs.Prelude.{ℕ, ◌+◌, ◌-◌, ◌==◌, min, Bool, true, false, List, length, Option, Some, None, if◌then◌else◌}
+use Rattle.dns_service.specs.Invokers.{after_feedback}
+use Rattle.dns_service.specs.declared.invoker.Enqueued.{Enqueued}
+use Rattle.dns_service.specs.declared.invoker.InvokerStatus.{InvokerStatus}
+use Rattle.dns_service.specs.declared.invoker.InvokerStatus.TheVariants.{Aborting}
+use Rattle.dns_framing.specs.Frames.{framed}
+use Rattle.dns_framing.specs.Invoker.{begun_with, connection_invoking, enqueued_by, offered}
+use Rattle.dns_framing.specs.Transactions.{is_in_transaction}
+use Rattle.dns_framing.specs.declared.invoker.ConnectionInvoker.{ConnectionInvoker}
+use Rattle.dns_embed.specs.declared.connection.Connection.{Connection}
+use Rattle.dns_embed.specs.declared.transactions.Heard.{Heard}
+use Rattle.dns_embed.specs.declared.transactions.Heard.TheVariants.{Nothing, Feedback, Failure}
+
+-- it is heard
+abbrev pub hearing : Heard → ConnectionInvoker → ConnectionInvoker
+hearing Nothing i = i
+hearing (Feedback f) i = after_feedback connection_invoking f i
+hearing Failure i = record i { status = Aborting }
+
+-- the frame of a reply; no octets are no reply
+abbrev pub frame_in : List ℕ → Option (List ℕ)
+frame_in o = if length o == 0 then None else Some (framed o)
+
+-- a frame is queued, where there is room
+abbrev pub queueing : Option (List ℕ) → ConnectionInvoker → ConnectionInvoker
+queueing None i = i
+queueing (Some m) i = offered i m
+
+-- what becomes of it: without room it is Held in a transaction, and else Dropped
+abbrev pub fate_of : Option (List ℕ) → ConnectionInvoker → Option Enqueued
+fate_of None i = None
+fate_of (Some m) i = Some (enqueued_by i m).1
+
+-- the connection and the request, which is so far, once that is heard, and with the frame
+abbrev pub invoker_told : ℕ → InvokerStatus → Heard → Connection → ConnectionInvoker
+invoker_told at status heard c = hearing heard (begun_with status (record c.invoker { at = at }))
+
+abbrev pub invoker_given : ℕ → InvokerStatus → Heard → Option (List ℕ) → Connection → ConnectionInvoker
+invoker_given at status heard frame c = queueing frame (invoker_told at status heard c)
+
+-- how many are in a transaction, of which one was, or is now
+abbrev pub counted : ℕ → Bool → Bool → ℕ
+counted n true true = n
+counted n true false = n - 1
+counted n false true = min (n + 1) 18446744073709551615
+counted n false false = n
+
+abbrev pub giving : ℕ → InvokerStatus → Heard → Option (List ℕ) → Connection → Connection
+giving at status heard frame c =
+    let i = invoker_given at status heard frame c in
+    record c { invoker = i; transactions = counted c.transactions (is_in_transaction status) (is_in_transaction i.status) }
