@@ -1,8 +1,8 @@
 //! A name server of several zones: the zone for a question, transfers out, and who may have them.
 //!
-//! - `Authority` is a service with zones by their apex. `Authority::new` takes the networks that transfers are
-//!   allowed to.
-//! - `add` adds a `ZoneTree` of dns_zone_tree, whose records each have room in a reply.
+//! - `Authority` is a service with zones by their apex.
+//! - `add` adds a `ZoneTree` of dns_zone_tree, whose records each have room in a reply. It may be transferred to the
+//!   networks of `Authority::new`, or to those of its own that `add_for` takes.
 //! - `Network` is the addresses whose first bits are those of an address.
 //! - `AuthorityStream` and `AuthorityFuture` are its replies: one reply, or the replies of a transfer.
 //!
@@ -11,7 +11,7 @@
 //!
 //! ```text
 //! question -> no zone, or another class than IN: REFUSED
-//!          -> AXFR, IXFR at the apex, over a stream: the address is allowed ? the transfer : REFUSED
+//!          -> AXFR, IXFR at the apex, over a stream: the address may have the zone ? the transfer : REFUSED
 //!          -> the zone with the longest apex -> the reply of a name server
 //! ```
 //!

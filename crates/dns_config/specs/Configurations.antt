@@ -1,5 +1,5 @@
 -- What a configuration sets. A key that isn't there leaves the value that one starts from, and each value is limited to its range.
-use Rattle.std.specs.Prelude.{ℕ, Bool, true, List, [], Option, Some, None, option_map, unwrap_or}
+use Rattle.std.specs.Prelude.{ℕ, Bool, true, ◌&&◌, List, [], length, nat_le, Option, Some, None, option_map, unwrap_or}
 use Rattle.dns_events.specs.Config.{Connection, Dgram, Stream, in_range, limited_budget}
 use Rattle.dns_name.specs.declared.address.IpAddr.{IpAddr}
 use Rattle.dns_config.specs.declared.config.Cookies.{Cookies}
@@ -10,6 +10,10 @@ use Rattle.dns_config.specs.declared.config.Timeouts.{Timeouts}
 -- a value that is set, limited to its range, or the one that one starts from
 abbrev pub value_of : ℕ → ℕ → ℕ → Option ℕ → ℕ
 value_of low high start o = unwrap_or (option_map (in_range low high) o) start
+
+-- the identifier of a name server has from 1 to 128 octets
+abbrev pub is_identifier : List ℕ → Bool
+is_identifier text = nat_le 1 (length text) && nat_le (length text) 128
 
 abbrev pub dgram_of : Limits → Timeouts → Dgram
 dgram_of l t = record {

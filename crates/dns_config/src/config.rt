@@ -2,10 +2,10 @@
 
 ghost use Rattle.std.specs.Prelude.{◌≡◌, ◌≢◌, true, [], IfOk, IsSome};
 ghost use Rattle.toml.specs.Parse.{parse_document};
-ghost use Rattle.dns_config.specs.Configurations.{connection_of, denied_of, dgram_of, secret_of, stream_of};
+ghost use Rattle.dns_config.specs.Configurations.{connection_of, denied_of, dgram_of, secret_of, stream_of, value_of};
 
 use crate::address::Endpoint;
-use crate::fields::{AddressList, ZoneName};
+use crate::fields::{AddressList, Identifier, ZoneName};
 use crate::prefix::Prefix;
 use crate::secret::Secret;
 use dns_events::{ConnectionConfig, DgramConfig, Settings, StreamConfig};
@@ -22,7 +22,11 @@ pub struct Config {
     pub listen: Vec<Endpoint>,
     /// The Unix socket at which it is controlled.
     pub control: Option<String>,
-    /// The networks to which its zones are transferred.
+    /// How many workers serve the datagrams of each address.
+    pub workers: Option<usize>,
+    /// The identifier of the server, for clients that ask for it (RFC 5001).
+    pub nsid: Option<Identifier>,
+    /// The networks to which its zones are transferred, but for those that have networks of their own.
     #[serde(default)]
     pub allow_transfer: Vec<Prefix>,
     #[serde(default)]
@@ -36,10 +40,12 @@ pub struct Config {
 
 /// A zone: the file that it is read of, or that its copy is kept in where it has a primary.
 #[derive(Drop, Deserialize)]
-#[serde(deny_unknown_fields)]
+#[serde(deny_unknown_fields, rename_all = "kebab-case")]
 pub struct ZoneEntry {
     pub name: ZoneName,
     pub file: String,
+    /// The networks to which it is transferred, in place of those for all zones.
+    pub allow_transfer: Option<Vec<Prefix>>,
     /// Where the zone is transferred from, if this server is a secondary of it.
     pub primary: Option<Endpoint>,
     /// Who is told of a new serial (RFC 1996).
@@ -163,7 +169,20 @@ fn denied_of(alloc: Global, cookies: &Option<Cookies>) -> Result<Vec<IpAddr>, Ou
     }
 }
 
+/// How many workers there may be for an address.
+const MOST_WORKERS: usize = 256;
+
 impl Config {
+    /// How many workers serve the datagrams of each address: as many as there are processors, where nothing is said.
+    pub fn workers(&self, processors: usize) -> usize
+        ensures { result ≡ value_of 1 256 processors self.now.workers }
+    {
+        match self.workers {
+            Some(count) => count.clamp(1, MOST_WORKERS),
+            None => processors,
+        }
+    }
+
     /// The settings of the server and its layers: strict, with EDNS.
     pub fn settings(&self, alloc: Global) -> Result<Settings, OutOfMemory>
         ensures { IfOk result (λ s. s ≡ record {

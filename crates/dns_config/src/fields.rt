@@ -1,5 +1,8 @@
 //! The values of a configuration's keys, each read of a text.
 
+ghost use Rattle.std.specs.Prelude.{◌≡◌};
+ghost use Rattle.dns_config.specs.Configurations.{is_identifier};
+
 use crate::address::{Endpoint, PeerAddress, read_address, read_endpoint};
 use crate::prefix::{Prefix, read_prefix};
 use crate::secret::{Secret, read_secret};
@@ -18,6 +21,38 @@ pub struct AddressList {
 #[derive(Drop)]
 pub struct ZoneName {
     pub name: Name,
+}
+
+/// The identifier of a name server (RFC 5001), which has from 1 to 128 octets. A reply of 512 octets has room for it.
+#[derive(Drop)]
+pub struct Identifier {
+    pub octets: Vec<u8>,
+}
+
+/// How many octets an identifier has at most.
+const MOST_IDENTIFIER_OCTETS: usize = 128;
+
+/// Whether a text is an identifier of a name server.
+pub fn is_identifier(text: &str) -> bool
+    ensures { result ≡ is_identifier text.now }
+{
+    text.len() >= 1 && text.len() <= MOST_IDENTIFIER_OCTETS
+}
+
+impl<'de> Deserialize<'de> for Identifier {
+    fn deserialize<F: Format>(
+        alloc: Global,
+        from: &mut Deserializer<'de, '_, F>,
+    ) -> Result<Identifier, F::Error> {
+        let text = CowStr::deserialize(alloc, from)?;
+        if !is_identifier(text.as_str()) {
+            return Err(from.custom("no identifier, which has from 1 to 128 octets"));
+        }
+        match Vec::from_slice(alloc, text.as_str().as_bytes()) {
+            Ok(octets) => Ok(Identifier { octets }),
+            Err(_) => Err(from.no_memory()),
+        }
+    }
 }
 
 impl<'de> Deserialize<'de> for Endpoint {

@@ -3,7 +3,8 @@
 //! - `read_config` reads a text as a `Config`. A key that isn't known is refused by its name, and so is a value of
 //!   another form. `ConfigError` says why, with line and column.
 //! - `Config` says where is listened, which zones are served of which files, which have a primary, and to whom they
-//!   are transferred. `settings` gives the settings of the layers and of both transports.
+//!   are transferred. `settings` gives the settings of the layers and of both transports, and `workers` how many serve
+//!   datagrams.
 //! - `read_address`, `read_endpoint`, `read_prefix` and `read_secret` read single values.
 //!
 //! ```text
@@ -32,6 +33,6 @@ mod secret;
 
 pub use address::{Endpoint, PeerAddress, read_address, read_endpoint};
 pub use config::{Config, ConfigError, Cookies, Limits, Timeouts, ZoneEntry, read_config};
-pub use fields::{AddressList, ZoneName};
+pub use fields::{AddressList, Identifier, ZoneName, is_identifier};
 pub use prefix::{Prefix, read_prefix};
 pub use secret::{Secret, read_secret};

@@ -6,7 +6,9 @@ use Rattle.dns_secondary.specs.declared.timers.SoaTimers.{SoaTimers}
 use Rattle.dns_zone_file.specs.ZoneFile.{zone_file}
 use Rattle.dns_zone.specs.Owned.{ZoneState}
 use Rattle.dns_zone_tree.specs.TreeErrors.{Makes, tree_error}
-use Rattle.dns_authority.specs.Authorities.{AuthorityState}
+use Rattle.std.specs.declared.vec.Vec.{Vec}
+use Rattle.std.specs.declared.alloc.Global.{Global}
+use Rattle.dns_authority.specs.Authorities.{AuthorityState, and_zone}
 use Rattle.dns_authority.specs.declared.networks.Network.{Network}
 use Rattle.dns_config.specs.declared.prefix.Prefix.{Prefix}
 use Rattle.dns_generation.specs.declared.fault.ZoneFault.{ZoneFault}
@@ -46,10 +48,15 @@ pub record GenerationState : Type 0 where
 abbrev pub summary_of : List Record → ZoneSummary
 summary_of records = record { timers = timers_among records; records = length records }
 
--- a zone is behind the others
-abbrev pub with_zone : ZoneState → GenerationState → GenerationState
-with_zone z g = record g {
-  authority = record g.authority { zones = g.authority.zones ++ z ∷ [] };
+-- the networks that may transfer a zone: its own, or those of the authority where it has none
+abbrev pub networks_or : Option (Vec Network Global) → List Network → List Network
+networks_or None all = all
+networks_or (Some own) all = own.items
+
+-- a zone that these networks may transfer is behind the others
+abbrev pub with_zone : List Network → ZoneState → GenerationState → GenerationState
+with_zone allowed z g = record g {
+  authority = and_zone allowed z g.authority;
   served = g.served ++ z.apex ∷ [];
   summaries = g.summaries ++ summary_of z.records ∷ [];
 }
@@ -61,8 +68,8 @@ with_withheld apex g = record g {
   summaries = g.summaries ++ (record { timers = None; records = 0 }) ∷ [];
 }
 
--- the zone that a file writes is behind the others
-pub record AddsFile (apex : List (List ℕ)) (text : List ℕ) (a b : GenerationState) : Type 0 where
+-- the zone that a file writes, which these networks may transfer, is behind the others
+pub record AddsFile (apex : List (List ℕ)) (text : List ℕ) (allowed : List Network) (a b : GenerationState) : Type 0 where
   pub zone : ZoneState
   pub written : IsWritten apex text zone
-  pub added : b ≡ with_zone zone a
+  pub added : b ≡ with_zone allowed zone a

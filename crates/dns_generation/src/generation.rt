@@ -1,9 +1,9 @@
 //! Zones that were read and judged.
 
 ghost use Rattle.std.specs.Prelude.{◌≡◌, ◌<◌, ◌++◌, ◌∷◌, [], IfErr, OnErr, OnOk, vec_capacity, vec_len};
-ghost use Rattle.dns_authority.specs.Authorities.{authority_answer};
+ghost use Rattle.dns_authority.specs.Authorities.{and_zone, authority_answer};
 ghost use Rattle.dns_secondary_service.specs.Withheld.{withholding};
-ghost use Rattle.dns_generation.specs.Generations.{AddsFile, HasFault, summary_of, timers_among, with_withheld, with_zone};
+ghost use Rattle.dns_generation.specs.Generations.{AddsFile, HasFault, networks_or, summary_of, timers_among, with_withheld, with_zone};
 
 use crate::fault::ZoneFault;
 use crate::zones::zone_of;
@@ -93,8 +93,24 @@ fn push_both(
     summaries.push_reserved(summary);
 }
 
+/// Adds a zone to an authority, which may be transferred to its own networks, or to those of the authority where it has none.
+fn add_zone(
+    authority: &mut Authority,
+    alloc: Global,
+    zone: ZoneTree,
+    own: Option<Vec<Network>>,
+) -> Result<(), OutOfMemory>
+    ensures ok { OnOk result (authority.new ≡ and_zone (networks_or own authority.old.allowed) zone authority.old) }
+    ensures err { OnErr result (authority.new ≡ authority.old) }
+{
+    match own {
+        Some(allowed) => authority.add_for(alloc, zone, allowed),
+        None => authority.add(alloc, zone),
+    }
+}
+
 impl Generation {
-    /// A generation of no zone, whose zones may be transferred to these networks.
+    /// A generation of no zone. A zone that has no networks of its own may be transferred to these.
     pub fn new(alloc: Global, allowed: Vec<Network>) -> Generation
         ensures { result ≡ record { authority = record { zones = []; allowed = allowed.items }; served = []; withheld = []; summaries = [] } }
     {
@@ -112,30 +128,63 @@ impl Generation {
         alloc: Global,
         apex: Name,
         zone: ZoneTree,
+        own: Option<Vec<Network>>,
         summary: ZoneSummary,
     ) -> Result<(), OutOfMemory>
         requires apex { apex ≡ zone.apex }
         requires summary { summary ≡ summary_of zone.records }
-        ensures ok { OnOk result (self.new ≡ with_zone zone self.old) }
+        ensures ok { OnOk result (self.new ≡ with_zone (networks_or own self.old.authority.allowed) zone self.old) }
         ensures err { OnErr result (self.new ≡ self.old) }
     {
         reserve_both(&mut self.served, &mut self.summaries)?;
-        self.authority.add(alloc, zone)?;
+        add_zone(&mut self.authority, alloc, zone, own)?;
         push_both(&mut self.served, &mut self.summaries, apex, summary);
         Ok(())
     }
 
     /// Reads a zone of the text of its file, judges it, and puts it behind the others. A refused call leaves the generation.
-    pub fn add(&mut self, alloc: Global, apex: &Name, text: &[u8]) -> Result<(), ZoneFault>
-        ensures ok { OnOk result (AddsFile apex.now text.now self.old self.new) }
+    fn add_file(
+        &mut self,
+        alloc: Global,
+        apex: &Name,
+        text: &[u8],
+        own: Option<Vec<Network>>,
+    ) -> Result<(), ZoneFault>
+        ensures ok { OnOk result (AddsFile apex.now text.now (networks_or own self.old.authority.allowed) self.old self.new) }
         ensures fault { IfErr result (HasFault apex.now text.now) }
         ensures err { OnErr result (self.new ≡ self.old) }
     {
         let zone = zone_of(alloc, apex, text)?;
         let apex = apex.try_clone(alloc)?;
         let summary = summary_of(zone.records());
-        self.put(alloc, apex, zone, summary)?;
+        self.put(alloc, apex, zone, own, summary)?;
         Ok(())
+    }
+
+    /// Reads a zone of the text of its file, judges it, and puts it behind the others. It may be transferred to the networks of the
+    /// generation. A refused call leaves the generation.
+    pub fn add(&mut self, alloc: Global, apex: &Name, text: &[u8]) -> Result<(), ZoneFault>
+        ensures ok { OnOk result (AddsFile apex.now text.now self.old.authority.allowed self.old self.new) }
+        ensures fault { IfErr result (HasFault apex.now text.now) }
+        ensures err { OnErr result (self.new ≡ self.old) }
+    {
+        self.add_file(alloc, apex, text, None)
+    }
+
+    /// Reads a zone of the text of its file, judges it, and puts it behind the others. It may be transferred to these networks. A
+    /// refused call leaves the generation.
+    pub fn add_for(
+        &mut self,
+        alloc: Global,
+        apex: &Name,
+        text: &[u8],
+        allowed: Vec<Network>,
+    ) -> Result<(), ZoneFault>
+        ensures ok { OnOk result (AddsFile apex.now text.now allowed.items self.old self.new) }
+        ensures fault { IfErr result (HasFault apex.now text.now) }
+        ensures err { OnErr result (self.new ≡ self.old) }
+    {
+        self.add_file(alloc, apex, text, Some(allowed))
     }
 
     /// Puts a zone without data behind the others: a query for its names is answered SERVFAIL. A refused call leaves the

@@ -1,7 +1,8 @@
 //! What a configuration serves at a time: zones that were read of their files and judged, and what answers over them.
 //!
-//! - `Generation` is a list of zones. `add` reads one of the text of its file and judges it. `withhold` adds one that
-//!   has no data, as a secondary's before its first transfer. `into_service` gives what answers.
+//! - `Generation` is a list of zones. `add` reads one of the text of its file and judges it, and so does `add_for`, with
+//!   networks of its own that may transfer it. `withhold` adds one that has no data, as a secondary's before its first
+//!   transfer. `into_service` gives what answers.
 //! - `ZoneFault` says why a text isn't served: a line and its reason, or why its records are no zone.
 //! - `ZoneSummary` is what is said of a zone: its SOA record and how many records it has.
 //! - `networks` are those of a configuration to which zones are transferred.

@@ -60,6 +60,8 @@ fn server_of(
     ServerConfig {
         listen,
         control: None,
+        workers: None,
+        nsid: None,
         allow_transfer: Vec::new(alloc),
         limits: limits.of_responses(),
         timeouts: Timeouts {

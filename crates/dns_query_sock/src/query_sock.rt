@@ -1,12 +1,13 @@
 //! A socket that passes on queries alone.
 
-ghost use Rattle.std.specs.Prelude.{◌≡◌, ◌≤◌, ◌&&◌, true, length, nat_le};
+ghost use Rattle.std.specs.Prelude.{◌≡◌, ◌≤◌, ◌&&◌, true, length, nat_le, Some, None};
 ghost use Rattle.dns_io.specs.SockTraffic.{RecvBound};
 ghost use Rattle.dns_query_sock.specs.Queries.{is_response, passed_on, without_responses};
 
+use crate::counts::QueryCounts;
 use dns_io::{AsyncDgramSock, DgramRecv, DgramSend};
 use dns_name::SocketAddr;
-use std::sync::Wait;
+use std::sync::{Arc, Wait};
 
 /// How many octets the identifier, QR and the codes of a header take (RFC 1035, section 4.1.1).
 const FLAGS_END: usize = 4;
@@ -19,16 +20,30 @@ pub struct QuerySock<D> {
     inner: D,
     // Whether each buffer had room for the octets that QR is read of.
     reads_flags: bool,
+    // What counts the responses.
+    counts: Option<Arc<QueryCounts>>,
 }
 
 impl<D> QuerySock<D> {
     /// Passes on the queries that this socket receives.
     pub fn new(inner: D) -> QuerySock<D>
-        ensures { result ≡ record { inner = inner; reads_flags = true } }
+        ensures { result ≡ record { inner = inner; reads_flags = true; counts = None } }
     {
         QuerySock {
             inner,
             reads_flags: true,
+            counts: None,
+        }
+    }
+
+    /// Passes on the queries that this socket receives, and counts the responses that it drops.
+    pub fn counted(inner: D, counts: Arc<QueryCounts>) -> QuerySock<D>
+        ensures { result ≡ record { inner = inner; reads_flags = true; counts = Some counts } }
+    {
+        QuerySock {
+            inner,
+            reads_flags: true,
+            counts: Some(counts),
         }
     }
 
@@ -47,6 +62,13 @@ pub fn is_response(octets: &[u8]) -> bool
     match octets {
         [_, _, flags, _, ..] => flags / 128 % 2 == 1,
         _ => false,
+    }
+}
+
+/// Counts what was dropped, where something came and nothing is passed on.
+fn count_dropped(counts: &Option<Arc<QueryCounts>>, came: &DgramRecv, passed: &DgramRecv) {
+    if let (Some(counts), DgramRecv::Got(_, _), DgramRecv::Again) = (counts, came, passed) {
+        counts.count_dropped(1);
     }
 }
 
@@ -97,6 +119,8 @@ impl<D: AsyncDgramSock> AsyncDgramSock for QuerySock<D> {
     fn try_recv_buf_from(&mut self, buf: &mut [u8]) -> DgramRecv {
         let answer = self.inner.try_recv_buf_from(buf);
         self.reads_flags = reads_flags(self.reads_flags, buf);
-        passed_on(answer, buf)
+        let passed = passed_on(answer, buf);
+        count_dropped(&self.counts, &answer, &passed);
+        passed
     }
 }

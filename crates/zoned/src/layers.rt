@@ -7,10 +7,13 @@ use crate::listener::Listener;
 use crate::place::{Place, serve_at};
 use dns_host::HostEnd;
 use dns_middleware::{Notifiable, Settings, wrap};
+use dns_opt::Nsid;
 use dns_own_opt::OwnOptSvc;
 use dns_reply_counts::{CountingSvc, ReplyCounts};
+use dns_reply_options::{NsidSvc, ServerCookieSvc};
 use dns_secondary_service::Withholding;
 use dns_service::{Service, WithoutMeta};
+use dns_transfer_notes::{NotingSvc, TransferNotes};
 use dns_udp_size::ClassicUdpSize;
 use std::alloc::Global;
 use std::rt::Clock;
@@ -30,11 +33,24 @@ fn udp_size(settings: &Settings) -> u16
     }
 }
 
+/// What counts the replies and notes the transfers of a listener.
+#[derive(Drop)]
+pub(crate) struct Tally {
+    pub(crate) counts: Arc<ReplyCounts>,
+    pub(crate) notes: Arc<TransferNotes>,
+}
+
 /// Serves with the replies counted.
 fn serve_counted<
     R: Clock + Threads + Wait + Copy + Send + Sync + 'static,
     S: Service<()> + Send + Sync + 'static,
->(rt: R, alloc: Global, place: Place, counts: Arc<ReplyCounts>, service: S) -> (Listener, HostEnd)
+>(
+    rt: R,
+    alloc: Global,
+    place: Place<R>,
+    counts: Arc<ReplyCounts>,
+    service: S,
+) -> (Listener<R>, HostEnd)
 where
     S::Future: Send,
     S::Stream: Send,
@@ -44,17 +60,31 @@ where
     serve_at(rt, alloc, place, WithoutMeta { service })
 }
 
-/// Serves with at most 512 octets over UDP without EDNS (RFC 1035, section 4.2.1).
-fn serve_sized<
+/// Serves with the transfers noted.
+fn serve_noted<
     R: Clock + Threads + Wait + Copy + Send + Sync + 'static,
     S: Service<()> + Send + Sync + 'static,
->(rt: R, alloc: Global, place: Place, counts: Arc<ReplyCounts>, service: S) -> (Listener, HostEnd)
+>(rt: R, alloc: Global, place: Place<R>, tally: Tally, service: S) -> (Listener<R>, HostEnd)
 where
     S::Future: Send,
     S::Stream: Send,
     requires { S.can_call service }
 {
-    serve_counted(rt, alloc, place, counts, ClassicUdpSize::new(service))
+    let Tally { counts, notes } = tally;
+    serve_counted(rt, alloc, place, counts, NotingSvc::new(rt, service, notes))
+}
+
+/// Serves with at most 512 octets over UDP without EDNS (RFC 1035, section 4.2.1).
+fn serve_sized<
+    R: Clock + Threads + Wait + Copy + Send + Sync + 'static,
+    S: Service<()> + Send + Sync + 'static,
+>(rt: R, alloc: Global, place: Place<R>, tally: Tally, service: S) -> (Listener<R>, HostEnd)
+where
+    S::Future: Send,
+    S::Stream: Send,
+    requires { S.can_call service }
+{
+    serve_noted(rt, alloc, place, tally, ClassicUdpSize::new(service))
 }
 
 /// Serves with OPT records that state the server's own size and the request's DO (RFC 6891, section 6.2.3; RFC 3225, section 3).
@@ -64,17 +94,60 @@ fn serve_stating<
 >(
     rt: R,
     alloc: Global,
-    place: Place,
-    counts: Arc<ReplyCounts>,
+    place: Place<R>,
+    tally: Tally,
     service: S,
     size: u16,
-) -> (Listener, HostEnd)
+) -> (Listener<R>, HostEnd)
 where
     S::Future: Send,
     S::Stream: Send,
     requires { S.can_call service }
 {
-    serve_sized(rt, alloc, place, counts, OwnOptSvc::new(service, size))
+    serve_sized(rt, alloc, place, tally, OwnOptSvc::new(service, size))
+}
+
+/// Serves with the identifier of the server where it is asked for (RFC 5001).
+fn serve_identified<
+    R: Clock + Threads + Wait + Copy + Send + Sync + 'static,
+    S: Service<()> + Send + Sync + 'static,
+>(
+    rt: R,
+    alloc: Global,
+    place: Place<R>,
+    tally: Tally,
+    service: S,
+    size: u16,
+    nsid: Option<Nsid>,
+) -> (Listener<R>, HostEnd)
+where
+    S::Future: Send,
+    S::Stream: Send,
+    requires { S.can_call service }
+{
+    serve_stating(rt, alloc, place, tally, NsidSvc::new(service, nsid), size)
+}
+
+/// Serves with a server cookie in each reply to a request with a client cookie, where there is a secret (RFC 7873, section 5.2).
+fn serve_with_cookies<
+    R: Clock + Threads + Wait + Copy + Send + Sync + 'static,
+    S: Service<()> + Send + Sync + 'static,
+>(
+    rt: R,
+    alloc: Global,
+    place: Place<R>,
+    tally: Tally,
+    settings: &Settings,
+    nsid: Option<Nsid>,
+    service: S,
+) -> (Listener<R>, HostEnd)
+where
+    S::Future: Send,
+    S::Stream: Send,
+    requires { S.can_call service }
+{
+    let service = ServerCookieSvc::new(service, settings.cookies);
+    serve_identified(rt, alloc, place, tally, service, udp_size(settings), nsid)
 }
 
 /// Serves by a service in the layers of the settings, and the target of NOTIFY.
@@ -85,12 +158,13 @@ fn serve_wrapped<
 >(
     rt: R,
     alloc: Global,
-    place: Place,
-    counts: Arc<ReplyCounts>,
+    place: Place<R>,
+    tally: Tally,
     settings: &Settings,
+    nsid: Option<Nsid>,
     service: S,
     target: N,
-) -> (Listener, HostEnd)
+) -> (Listener<R>, HostEnd)
 where
     S::Future: Send,
     S::Stream: Send,
@@ -98,7 +172,7 @@ where
     requires { S.can_call service }
 {
     match wrap(alloc, settings, service, target) {
-        Ok(wrapped) => serve_stating(rt, alloc, place, counts, wrapped, udp_size(settings)),
+        Ok(wrapped) => serve_with_cookies(rt, alloc, place, tally, settings, nsid, wrapped),
         Err(_) => place.give_up(rt),
     }
 }
@@ -111,17 +185,18 @@ pub(crate) fn serve_zones<
 >(
     rt: R,
     alloc: Global,
-    place: Place,
-    counts: Arc<ReplyCounts>,
+    place: Place<R>,
+    tally: Tally,
     settings: &Settings,
+    nsid: Option<Nsid>,
     service: Arc<Withholding<S>>,
     target: N,
-) -> (Listener, HostEnd)
+) -> (Listener<R>, HostEnd)
 where
     S::Future: Send,
     S::Stream: Send,
     N::Future: Send,
     requires { ⟦<Withholding<S> as Service<()>>⟧.can_call (arc_value service) }
 {
-    serve_wrapped(rt, alloc, place, counts, settings, service, target)
+    serve_wrapped(rt, alloc, place, tally, settings, nsid, service, target)
 }

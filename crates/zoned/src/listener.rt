@@ -2,24 +2,71 @@
 
 use crate::configuration::Shown;
 use anyhow::Context;
-use dns_name::SocketAddr;
-use dns_outside::{MioAccept, MioSock};
-use dns_query_sock::QuerySock;
+use dns_name::{IpAddr, OutOfMemory, SocketAddr};
+use dns_outside::{HostClock, MioAccept, MioSock};
+use dns_query_link::QueryAccept;
+use dns_query_sock::{QueryCounts, QuerySock};
+use dns_workers::{Silent, Worker};
+use std::alloc::Global;
 use std::net::Net;
+use std::rt::Clock;
+use std::sync::Arc;
 
-/// What connections and datagrams of one address come from. Responses are dropped.
+/// What serves the datagrams of a socket. Responses are dropped.
+pub(crate) type DgramWorker<R> = Worker<QuerySock<MioSock>, HostClock<R>, Silent>;
+
+/// What the connections of one address come from, and what serve its datagrams. Responses are dropped.
 #[derive(Drop)]
-pub(crate) struct Listener {
+pub(crate) struct Listener<R> {
     pub(crate) address: SocketAddr,
-    pub(crate) accept: MioAccept,
-    pub(crate) sock: QuerySock<MioSock>,
+    pub(crate) accept: QueryAccept<MioAccept>,
+    pub(crate) workers: Vec<DgramWorker<R>>,
 }
 
-/// The socket of datagrams at an address.
-fn bind_sock<N: Net>(net: &N, address: SocketAddr) -> anyhow::Result<QuerySock<MioSock>> {
+/// A worker that serves the datagrams of a socket.
+fn worker<R: Clock + Copy>(
+    machine: R,
+    sock: MioSock,
+    counts: &Arc<QueryCounts>,
+) -> Result<DgramWorker<R>, OutOfMemory> {
+    let counts = Arc::try_clone(counts)?;
+    let sock = QuerySock::counted(sock, counts);
+    Ok(Worker::new(sock, HostClock::new(machine), Silent::new()))
+}
+
+/// How many workers share an address: one where a socket takes datagrams over IPv4 and IPv6.
+fn shared_by(address: SocketAddr, wanted: usize) -> usize {
+    if address.ip == IpAddr::V6([0; 16]) {
+        return 1;
+    }
+    wanted
+}
+
+/// A socket of datagrams at an address, which others share where there are several.
+fn bind_sock<N: Net>(net: &N, address: SocketAddr, wanted: usize) -> anyhow::Result<MioSock> {
     let shown = Shown(address);
-    let sock = MioSock::bind(net, address).context(format_args!("listening on {shown} over UDP"))?;
-    Ok(QuerySock::new(sock))
+    let bound = if wanted > 1 {
+        MioSock::bind_shared(net, address)
+    } else {
+        MioSock::bind(net, address)
+    };
+    bound.context(format_args!("listening on {shown} over UDP"))
+}
+
+/// The workers at an address, each with a socket of its own.
+fn bind_workers<R: Net + Clock + Copy>(
+    machine: R,
+    alloc: Global,
+    address: SocketAddr,
+    wanted: usize,
+    counts: &Arc<QueryCounts>,
+) -> anyhow::Result<Vec<DgramWorker<R>>> {
+    let mut workers = Vec::new(alloc);
+    for _ in 0..wanted {
+        let sock = bind_sock(&machine, address, wanted)?;
+        workers.push(worker(machine, sock, counts)?)?;
+    }
+    Ok(workers)
 }
 
 /// The socket of connections at an address, and the address with the port that the system picked.
@@ -33,15 +80,24 @@ fn bind_accept<N: Net>(net: &N, wanted: SocketAddr) -> anyhow::Result<(MioAccept
     Ok((accept, SocketAddr { ip, port }))
 }
 
-impl Listener {
-    /// Opens the sockets of an address, the one of connections first; at port 0 the system picks the port of both.
-    pub(crate) fn bind<N: Net>(net: &N, wanted: SocketAddr) -> anyhow::Result<Listener> {
-        let (accept, address) = bind_accept(net, wanted)?;
-        let sock = bind_sock(net, address)?;
+impl<R: Net + Clock + Copy> Listener<R> {
+    /// Opens the sockets of an address, the one of connections first, since it is refused where another server has the address. At
+    /// port 0 the system picks the port of all.
+    pub(crate) fn bind(
+        machine: R,
+        alloc: Global,
+        wanted: SocketAddr,
+        workers: usize,
+        counts: &Arc<QueryCounts>,
+    ) -> anyhow::Result<Listener<R>> {
+        let (accept, address) = bind_accept(&machine, wanted)?;
+        let workers = shared_by(address, workers);
+        let workers = bind_workers(machine, alloc, address, workers, counts)?;
+        let accept = QueryAccept::new(alloc, accept, Arc::try_clone(counts)?);
         Ok(Listener {
             address,
             accept,
-            sock,
+            workers,
         })
     }
 }

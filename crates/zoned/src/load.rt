@@ -26,9 +26,15 @@ fn load_zone(
 ) -> anyhow::Result<()> {
     let file = entry.file.as_str();
     let text = fs::read(rt, file).context(format_args!("{file}"))?;
-    generation
-        .add(rt.alloc(), &entry.name.name, text.as_slice())
-        .context(format_args!("{file}"))
+    let apex = &entry.name.name;
+    let added = match &entry.allow_transfer {
+        Some(prefixes) => {
+            let allowed = networks(rt.alloc(), prefixes.as_slice())?;
+            generation.add_for(rt.alloc(), apex, text.as_slice(), allowed)
+        }
+        None => generation.add(rt.alloc(), apex, text.as_slice()),
+    };
+    added.context(format_args!("{file}"))
 }
 
 /// Whether a zone stands among the first so many of a configuration.

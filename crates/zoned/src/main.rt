@@ -4,8 +4,9 @@
 //!   the control socket.
 //! - `server` goes from generation to generation: it looks every 50 ms whether something is asked, and shuts the listeners
 //!   down where something else is to be served. `served` is what is served at a time.
-//! - `layers` puts the service together: the zones, in the layers of the settings, with the server's own OPT record, 512 octets
-//!   without EDNS, counted. `listener`, `place` and `running` serve it at an address, in threads.
+//! - `layers` puts the service together: the zones, in the layers of the settings, with server cookies, the server's identifier
+//!   and its own OPT record, 512 octets without EDNS, noted and counted. `listener`, `place` and `running` serve it at an address,
+//!   in threads. `counts` has what is counted, and logs the transfers.
 //! - `copies`, `secondary` and `check` keep the copies of zones that have a primary, `notifier` tells others of new serials.
 //!
 //! ```text

@@ -5,32 +5,30 @@ ghost use Rattle.std.specs.Arc.{arc_value};
 
 use crate::listener::Listener;
 use dns_book::{Book, BookSeat};
-use dns_host::{ConnectionWork, Host, HostEnd, Silent, host_service};
 use dns_outside::{AsyncAccept, AsyncDgramSock, HostClock, MioLink, Spawner, ThreadSpawner};
+use dns_query_link::QueryLink;
 use dns_service::SharedService;
+use dns_workers::{AcceptContext, ConnectionWork, HostEnd, ServeContext, Silent, WorkersHost};
 use std::alloc::Global;
 use std::rt::Clock;
 use std::sync::{Arc, Wait};
 use std::thread::Threads;
 
 /// What serves the connections of a listener, each in a thread of its own.
-type Connections<R, W> = ThreadSpawner<ConnectionWork<MioLink, HostClock<R>, Silent, W>>;
+type Connections<R, W> = ThreadSpawner<ConnectionWork<QueryLink<MioLink>, HostClock<R>, Silent, W>>;
 
 /// A listener that is to serve, and a seat at the book of its slots.
 #[derive(Drop)]
-pub(crate) struct Place {
-    pub(crate) listener: Listener,
+pub(crate) struct Place<R> {
+    pub(crate) listener: Listener<R>,
     pub(crate) book: Arc<Book>,
     pub(crate) seat: BookSeat,
     ghost at_book: { seat.book ≡ arc_value book },
 }
 
-impl Place {
+impl<R: Wait + Copy> Place<R> {
     /// Shuts the book down for want of memory.
-    pub(crate) fn give_up<R: Wait>(self, rt: R) -> (Listener, HostEnd)
-    where
-        R: Copy,
-    {
+    pub(crate) fn give_up(self, rt: R) -> (Listener<R>, HostEnd) {
         let Place {
             listener,
             book,
@@ -39,6 +37,43 @@ impl Place {
         let _ = book.shutdown(&rt, &mut seat);
         (listener, HostEnd::OutOfMemory)
     }
+}
+
+/// Serves over a host by a service that is shared, until the book is shut down.
+fn serve_shared<
+    R: Threads + Wait + Copy + Send + Sync + 'static,
+    A: AsyncAccept,
+    D: AsyncDgramSock + Send,
+    C: dns_outside::Clock + Send + Drop + 'static,
+    W: SharedService + Send + Sync + 'static,
+    P: Spawner<ConnectionWork<A::Link, C, Silent, W>>,
+>(
+    rt: &R,
+    alloc: Global,
+    service: &Arc<W>,
+    clock: &C,
+    book: &Arc<Book>,
+    seat: BookSeat,
+    host: &mut WorkersHost<A, D, C, P, Silent>,
+) -> HostEnd
+where
+    A::Link: Send + Drop + 'static,
+    W::Future: Send,
+    W::Stream: Send,
+    requires book { seat.book ≡ arc_value book.now }
+    requires can_call { W.can_call (arc_value service.now) }
+{
+    let accept_context = AcceptContext {
+        serve_context: ServeContext {
+            rt,
+            alloc,
+            book,
+            service,
+        },
+        clock,
+    };
+    let (_seat, end) = host.serve(&accept_context, seat, 0);
+    end
 }
 
 /// Serves over a host until the book is shut down.
@@ -53,9 +88,10 @@ fn serve_over<
     rt: &R,
     alloc: Global,
     service: W,
+    clock: &C,
     book: &Arc<Book>,
-    seat: BookSeat,
-    host: &mut Host<A, D, C, P, Silent>,
+    mut seat: BookSeat,
+    host: &mut WorkersHost<A, D, C, P, Silent>,
 ) -> HostEnd
 where
     A::Link: Send + Drop + 'static,
@@ -64,15 +100,20 @@ where
     requires book { seat.book ≡ arc_value book.now }
     requires can_call { W.can_call service }
 {
-    let (_seat, end) = host_service(rt, alloc, service, book, seat, host, 0);
-    end
+    match Arc::new(alloc, service) {
+        Ok(shared) => serve_shared(rt, alloc, &shared, clock, book, seat, host),
+        Err(_) => {
+            let _ = book.shutdown(rt, &mut seat);
+            HostEnd::OutOfMemory
+        }
+    }
 }
 
 /// Serves at a listener until the book is shut down, and gives the listener back, whose sockets stay open.
 pub(crate) fn serve_at<
     R: Clock + Threads + Wait + Copy + Send + Sync + 'static,
     W: SharedService + Send + Sync + 'static,
->(rt: R, alloc: Global, place: Place, service: W) -> (Listener, HostEnd)
+>(rt: R, alloc: Global, place: Place<R>, service: W) -> (Listener<R>, HostEnd)
 where
     W::Future: Send,
     W::Stream: Send,
@@ -86,22 +127,25 @@ where
     let Listener {
         address,
         accept,
-        sock,
+        workers,
     } = listener;
     let spawner: Connections<R, W> = ThreadSpawner::new(alloc);
-    let mut host = Host {
+    let mut host = WorkersHost {
         accept,
-        sock,
-        clock: HostClock::new(rt),
+        workers,
         spawner,
-        journal: Silent::new(),
     };
-    let end = serve_over(&rt, alloc, service, &book, seat, &mut host);
-    let Host { accept, sock, .. } = host;
+    let clock = HostClock::new(rt);
+    let end = serve_over(&rt, alloc, service, &clock, &book, seat, &mut host);
+    let WorkersHost {
+        accept,
+        workers,
+        ..
+    } = host;
     let listener = Listener {
         address,
         accept,
-        sock,
+        workers,
     };
     (listener, end)
 }

@@ -3,29 +3,42 @@
 ghost use Rattle.std.specs.Prelude.{◌≡◌, IfOk};
 ghost use Rattle.std.specs.Arc.{arc_value};
 
-use crate::layers::serve_zones;
+use crate::layers::{Tally, serve_zones};
 use crate::listener::Listener;
 use crate::place::Place;
 use anyhow::bail;
 use dns_authority::Authority;
 use dns_book::{Book, BookSeat, BookState};
-use dns_host::HostEnd;
+use dns_config::Identifier;
 use dns_middleware::Settings;
 use dns_name::OutOfMemory;
-use dns_reply_counts::ReplyCounts;
+use dns_opt::Nsid;
 use dns_secondary_service::{NotifyTarget, Withholding};
+use dns_workers::HostEnd;
 use std::alloc::Global;
 use std::rt::Clock;
 use std::sync::{Arc, Wait};
 use std::thread::{self, JoinHandle, Threads};
 
-/// What is served: the zones, by settings, with the target of NOTIFY and what counts the replies.
+/// What is served: the zones, by settings, with the target of NOTIFY, the identifier of the server, and what counts the replies.
 #[derive(Drop)]
 pub(crate) struct Offer {
     pub(crate) settings: Settings,
     pub(crate) service: Arc<Withholding<Authority>>,
     pub(crate) target: Arc<NotifyTarget>,
-    pub(crate) counts: Arc<ReplyCounts>,
+    pub(crate) nsid: Option<Nsid>,
+    pub(crate) tally: Tally,
+}
+
+/// The identifier that a configuration says.
+fn nsid_of(alloc: Global, identifier: &Option<Identifier>) -> Result<Option<Nsid>, OutOfMemory> {
+    match identifier {
+        Some(identifier) => {
+            let octets = Vec::from_slice(alloc, identifier.octets.as_slice())?;
+            Ok(Nsid::from_octets(octets).ok())
+        }
+        None => Ok(None),
+    }
 }
 
 impl Offer {
@@ -35,17 +48,19 @@ impl Offer {
         settings: &Settings,
         service: &Arc<Withholding<Authority>>,
         target: &Arc<NotifyTarget>,
-        counts: &Arc<ReplyCounts>,
+        identifier: &Option<Identifier>,
+        tally: Tally,
     ) -> Result<Offer, OutOfMemory> {
         let service = Arc::try_clone(service)?;
         let target = Arc::try_clone(target)?;
-        let counts = Arc::try_clone(counts)?;
+        let nsid = nsid_of(alloc, identifier)?;
         let settings = settings.try_clone(alloc)?;
         Ok(Offer {
             settings,
             service,
             target,
-            counts,
+            nsid,
+            tally,
         })
     }
 }
@@ -64,45 +79,42 @@ fn open_book(alloc: Global, settings: &Settings) -> Result<(Arc<Book>, BookSeat)
 
 /// A listener that is to serve, and what is served.
 #[derive(Drop)]
-struct Post {
-    place: Place,
+struct Post<R> {
+    place: Place<R>,
     offer: Offer,
 }
 
-impl Post {
+impl<R: Clock + Threads + Wait + Copy + Send + Sync + 'static> Post<R> {
     /// Serves until the book is shut down.
-    fn serve<R: Clock + Threads + Wait + Copy + Send + Sync + 'static>(
-        self,
-        rt: R,
-        alloc: Global,
-    ) -> (Listener, HostEnd) {
+    fn serve(self, rt: R, alloc: Global) -> (Listener<R>, HostEnd) {
         let Post { place, offer } = self;
         let Offer {
             settings,
             service,
             target,
-            counts,
+            nsid,
+            tally,
         } = offer;
-        serve_zones(rt, alloc, place, counts, &settings, service, target)
+        serve_zones(rt, alloc, place, tally, &settings, nsid, service, target)
     }
 }
 
 /// A listener that serves in a thread, which gives it back; and another seat at its book, from which it is shut down.
 #[derive(Drop)]
-pub(crate) struct Running {
-    thread: JoinHandle<(Listener, HostEnd)>,
+pub(crate) struct Running<R> {
+    thread: JoinHandle<(Listener<R>, HostEnd)>,
     book: Arc<Book>,
     seat: BookSeat,
     ghost at_book: { seat.book ≡ arc_value book },
 }
 
 /// A place at a listener, and the seat from which it is shut down.
-fn place_at<R: Wait>(
+fn place_at<R: Wait + Drop>(
     rt: &R,
-    listener: Listener,
+    listener: Listener<R>,
     book: &Arc<Book>,
     seat: BookSeat,
-) -> Result<(Place, BookSeat), OutOfMemory>
+) -> Result<(Place<R>, BookSeat), OutOfMemory>
     requires { seat.book ≡ arc_value book.now }
     ensures { IfOk result (λ r. r.1.book ≡ arc_value book.now) }
 {
@@ -116,14 +128,14 @@ fn place_at<R: Wait>(
     Ok((place, mine))
 }
 
-impl Running {
+impl<R: Clock + Threads + Wait + Copy + Send + Sync + 'static> Running<R> {
     /// Starts a thread in which a listener serves.
-    pub(crate) fn start<R: Clock + Threads + Wait + Copy + Send + Sync + 'static>(
+    pub(crate) fn start(
         machine: R,
         alloc: Global,
-        listener: Listener,
+        listener: Listener<R>,
         offer: Offer,
-    ) -> anyhow::Result<Running> {
+    ) -> anyhow::Result<Running<R>> {
         let (book, seat) = open_book(alloc, &offer.settings)?;
         let (place, seat) = place_at(&machine, listener, &book, seat)?;
         let post = Post { place, offer };
@@ -132,19 +144,21 @@ impl Running {
             Err(_) => bail!("a thread can't be started"),
         }
     }
+}
 
+impl<R> Running<R> {
     /// Whether it was shut down or has ended.
-    pub(crate) fn is_closed<R: Wait>(&mut self, rt: &R) -> bool {
+    pub(crate) fn is_closed<W: Wait>(&mut self, rt: &W) -> bool {
         self.book.look(rt, &mut self.seat).closed
     }
 
     /// Shuts it down: it takes nothing more, and flushes its connections.
-    pub(crate) fn close<R: Wait>(&mut self, rt: &R) {
+    pub(crate) fn close<W: Wait>(&mut self, rt: &W) {
         let _ = self.book.shutdown(rt, &mut self.seat);
     }
 
     /// The listener, and how it was served. Its end is waited for.
-    pub(crate) fn join<R: Threads>(self, rt: &R) -> (Listener, HostEnd) {
+    pub(crate) fn join<T: Threads>(self, rt: &T) -> (Listener<R>, HostEnd) {
         let Running { thread, .. } = self;
         thread.join(rt)
     }

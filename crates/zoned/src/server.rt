@@ -3,25 +3,23 @@
 use crate::configuration::Shown;
 use crate::control::{Caller, Control, Order};
 use crate::copies::Copies;
-use crate::counts::counted;
+use crate::counts::Counters;
 use crate::listener::Listener;
 use crate::load::report;
 use crate::notifier::Notifier;
 use crate::running::{Offer, Running};
 use crate::served::Served;
 use dns_config::Config;
-use dns_host::HostEnd;
 use dns_name::OutOfMemory;
-use dns_reply_counts::ReplyCounts;
+use dns_workers::HostEnd;
 use log::{error, info};
 use std::alloc::Global;
 use std::net::Net;
 use std::random::RandomSource;
 use std::rt::{Clock, Files};
-use std::sync::{Arc, Wait};
-use std::thread::Threads;
+use std::sync::Wait;
+use std::thread::{self, Threads, available_parallelism};
 use std::time::{Duration, Instant};
-use std::{mem, thread};
 
 /// How often it is looked whether something is asked.
 const LOOK_MILLIS: u64 = 50;
@@ -43,7 +41,7 @@ enum Phase {
     Stopped,
 }
 
-/// A server: where it listens, what it serves and who controls it.
+/// A server: what it serves and who controls it.
 #[derive(Drop)]
 struct Server {
     path: String,
@@ -51,14 +49,13 @@ struct Server {
     served: Served,
     copies: Copies,
     notifier: Notifier,
-    counts: Arc<ReplyCounts>,
+    counters: Counters,
     control: Option<Control>,
-    listeners: Vec<Listener>,
     phase: Phase,
 }
 
 /// Whether a listener was shut down or has ended by itself.
-fn has_ended<R: Wait>(machine: &R, running: &mut [Running]) -> bool {
+fn has_ended<R: Wait>(machine: &R, running: &mut [Running<R>]) -> bool {
     for one in running {
         if one.is_closed(machine) {
             return true;
@@ -68,7 +65,7 @@ fn has_ended<R: Wait>(machine: &R, running: &mut [Running]) -> bool {
 }
 
 /// Shuts each listener down.
-fn close_all<R: Wait>(machine: &R, running: &mut [Running]) {
+fn close_all<R: Wait>(machine: &R, running: &mut [Running<R>]) {
     for one in running {
         one.close(machine);
     }
@@ -82,11 +79,27 @@ fn refuse(rt: &HostRuntime, caller: &mut Caller, fault: &anyhow::Error) -> anyho
     Ok(())
 }
 
+/// How many processors there are, as far as that is known.
+fn processors<R: Threads>(machine: &R) -> usize {
+    match available_parallelism(machine) {
+        Ok(processors) => processors.get(),
+        Err(_) => 1,
+    }
+}
+
 /// Opens the sockets of each address.
-fn bind_all<R: Net>(machine: &R, alloc: Global, config: &Config) -> anyhow::Result<Vec<Listener>> {
+fn bind_all<R: Net + Clock + Threads + Copy>(
+    machine: R,
+    alloc: Global,
+    config: &Config,
+    counters: &Counters,
+) -> anyhow::Result<Vec<Listener<R>>> {
+    let workers = config.workers(processors(&machine));
     let mut listeners = Vec::new(alloc);
     for endpoint in config.listen.iter() {
-        listeners.push(Listener::bind(machine, endpoint.address)?)?;
+        let address = endpoint.address;
+        let listener = Listener::bind(machine, alloc, address, workers, counters.queries())?;
+        listeners.push(listener)?;
     }
     Ok(listeners)
 }
@@ -104,11 +117,28 @@ fn open_control<R: Net + Files>(
 }
 
 /// Says where is listened.
-fn say_listeners(rt: &HostRuntime, listeners: &[Listener]) -> anyhow::Result<()> {
+fn say_listeners<R>(rt: &HostRuntime, listeners: &[Listener<R>]) -> anyhow::Result<()> {
     for listener in listeners {
         println!(rt; "listening on {}", Shown(listener.address))?;
     }
     Ok(())
+}
+
+/// Takes the listeners back, each once it has ended.
+fn take_back<R: Threads + Drop>(
+    machine: &R,
+    rt: &HostRuntime,
+    running: Vec<Running<R>>,
+) -> anyhow::Result<Vec<Listener<R>>> {
+    let mut listeners = Vec::new(rt.alloc());
+    for one in running {
+        let (listener, end) = one.join(machine);
+        if end != HostEnd::Done {
+            error!(rt; "{}: an accept, a thread, a receive or a send failed", Shown(listener.address));
+        }
+        listeners.push(listener)?;
+    }
+    Ok(listeners)
 }
 
 impl Server {
@@ -116,7 +146,7 @@ impl Server {
     fn new(rt: &HostRuntime, path: &str) -> anyhow::Result<Server> {
         let alloc = rt.alloc();
         let since = Instant::now(rt)?;
-        let counts = Arc::new(alloc, ReplyCounts::new(alloc)?)?;
+        let counters = Counters::new(alloc)?;
         let copies = Copies::new(alloc)?;
         let served = Served::load(rt, 1, path, &[])?;
         let path = String::from_str(alloc, path)?;
@@ -126,20 +156,24 @@ impl Server {
             served,
             copies,
             notifier: Notifier::new(alloc),
-            counts,
+            counters,
             control: None,
-            listeners: Vec::new(alloc),
             phase: Phase::Serving,
         })
     }
 
     /// Opens all sockets, and says where is listened.
-    fn open<R: Net + Files>(&mut self, machine: &R, rt: &HostRuntime) -> anyhow::Result<()> {
+    fn open<R: Net + Files + Clock + Threads + Copy>(
+        &mut self,
+        machine: R,
+        rt: &HostRuntime,
+    ) -> anyhow::Result<Vec<Listener<R>>> {
         let alloc = rt.alloc();
-        self.listeners = bind_all(machine, alloc, &self.served.config)?;
-        self.control = open_control(machine, alloc, &self.served.config)?;
+        let listeners = bind_all(machine, alloc, &self.served.config, &self.counters)?;
+        self.control = open_control(&machine, alloc, &self.served.config)?;
         self.follow_copies(rt)?;
-        say_listeners(rt, self.listeners.as_slice())
+        say_listeners(rt, listeners.as_slice())?;
+        Ok(listeners)
     }
 
     /// How many seconds the server runs.
@@ -167,46 +201,29 @@ impl Server {
     /// What is served at a listener.
     fn offer(&self, alloc: Global) -> Result<Offer, OutOfMemory> {
         let served = &self.served;
-        let zones = &served.zones.service;
         Offer::new(
             alloc,
             &served.settings,
-            zones,
+            &served.zones.service,
             self.copies.target(),
-            &self.counts,
+            &served.config.nsid,
+            self.counters.tally()?,
         )
     }
 
     /// Starts a thread for each listener, in which it serves.
     fn start<R: Clock + Threads + Wait + Copy + Send + Sync + 'static>(
-        &mut self,
+        &self,
         machine: R,
         alloc: Global,
-    ) -> anyhow::Result<Vec<Running>> {
-        let listeners = mem::replace(&mut self.listeners, Vec::new(alloc));
+        listeners: Vec<Listener<R>>,
+    ) -> anyhow::Result<Vec<Running<R>>> {
         let mut running = Vec::new(alloc);
         for listener in listeners {
             let offer = self.offer(alloc)?;
             running.push(Running::start(machine, alloc, listener, offer)?)?;
         }
         Ok(running)
-    }
-
-    /// Takes the listeners back, each once it has ended.
-    fn take_back<R: Threads>(
-        &mut self,
-        machine: &R,
-        rt: &HostRuntime,
-        running: Vec<Running>,
-    ) -> anyhow::Result<()> {
-        for one in running {
-            let (listener, end) = one.join(machine);
-            if end != HostEnd::Done {
-                error!(rt; "{}: an accept, a thread, a receive or a send failed", Shown(listener.address));
-            }
-            self.listeners.push(listener)?;
-        }
-        Ok(())
     }
 
     /// Appends a line for each zone, behind what stands before.
@@ -217,7 +234,7 @@ impl Server {
         Ok(())
     }
 
-    /// Says what is served, and how many replies were given.
+    /// Says what is served, and what was counted.
     fn say_status(&self, rt: &HostRuntime, caller: &mut Caller) -> anyhow::Result<()> {
         let alloc = rt.alloc();
         let seconds = self.seconds(rt)?;
@@ -225,7 +242,7 @@ impl Server {
         let text = format!(in alloc; "ok\ngeneration {number}, up for {seconds} s\n")?;
         caller.say(text.as_str())?;
         self.say_zones(alloc, caller)?;
-        let text = counted(alloc, &self.counts)?;
+        let text = self.counters.report(alloc)?;
         caller.say(text.as_str())?;
         Ok(())
     }
@@ -296,8 +313,10 @@ impl Server {
         Ok(())
     }
 
-    /// Does what a caller asks, or what the copies lead to. What fails is logged, and what is served stays.
-    fn turn<R: Net + Threads>(&mut self, machine: &R, rt: &HostRuntime) {
+    /// Logs the transfers that were noted, and does what a caller asks, or what the copies lead to. What fails is logged, and what is
+    /// served stays.
+    fn turn<R: Net + Threads + Wait>(&mut self, machine: &R, rt: &HostRuntime) {
+        self.counters.log_transfers(machine, rt);
         self.obey_next(rt);
         if self.phase != Phase::Serving {
             return;
@@ -312,7 +331,7 @@ impl Server {
         &mut self,
         machine: &R,
         rt: &HostRuntime,
-        running: &mut [Running],
+        running: &mut [Running<R>],
     ) {
         for _ in machine.forever() {
             if has_ended(machine, running) {
@@ -335,18 +354,24 @@ impl Server {
         self.notifier.tell_changes(machine, rt, &self.served, now)
     }
 
-    /// Serves a generation until another one is to be served, or none, or a listener ends by itself.
+    /// Serves a generation at these listeners, until another one is to be served, or none, or a listener ends by itself. Gives the
+    /// listeners back.
     fn serve_generation<
         R: Net + Clock + RandomSource + Threads + Wait + Copy + Send + Sync + 'static,
-    >(&mut self, machine: R, rt: &HostRuntime) -> anyhow::Result<()> {
+    >(
+        &mut self,
+        machine: R,
+        rt: &HostRuntime,
+        listeners: Vec<Listener<R>>,
+    ) -> anyhow::Result<Vec<Listener<R>>> {
         info!(rt; "generation {} is served", self.served.number);
         self.phase = Phase::Serving;
         if let Err(fault) = self.tell(&machine, rt) {
             error!(rt; "NOTIFY: {fault:#}");
         }
-        let mut running = self.start(machine, rt.alloc())?;
+        let mut running = self.start(machine, rt.alloc(), listeners)?;
         self.wait(&machine, rt, running.as_mut_slice());
-        self.take_back(&machine, rt, running)
+        take_back(&machine, rt, running)
     }
 
     /// Opens all sockets, and serves generation after generation until the server is stopped.
@@ -355,9 +380,9 @@ impl Server {
         machine: R,
         rt: &HostRuntime,
     ) -> anyhow::Result<()> {
-        self.open(&machine, rt)?;
+        let mut listeners = self.open(machine, rt)?;
         for _ in machine.forever() {
-            self.serve_generation(machine, rt)?;
+            listeners = self.serve_generation(machine, rt, listeners)?;
             if self.phase == Phase::Stopped {
                 break;
             }

@@ -1,0 +1,2 @@
+pub use Rattle.dns_framing.specs.Frames
+pub mod QueryFrames

@@ -1,0 +1,219 @@
+//! A layer that notes transfers.
+
+ghost use Rattle.std.specs.Prelude.{◌≡◌};
+
+use crate::notes::{TransferNews, TransferNote, TransferNotes};
+use dns_base::Rcode;
+use dns_name::{Name, SocketAddr};
+use dns_service::{OutOfMemory, Polled, ReplyFuture, ReplyStream, Request, Service, ServiceResult};
+use std::alloc::Global;
+use std::sync::{Arc, Wait};
+
+/// The type of a question that asks for a transfer (RFC 1035, section 3.2.3).
+const AXFR: u16 = 252;
+
+/// The type of a question that asks for what has changed in a zone (RFC 1995, section 2).
+const IXFR: u16 = 251;
+
+/// A service whose transfers are noted.
+#[derive(Drop)]
+pub struct NotingSvc<R, S> {
+    rt: R,
+    next: S,
+    notes: Arc<TransferNotes>,
+}
+
+impl<R, S> NotingSvc<R, S> {
+    /// Round a service.
+    pub fn new(rt: R, next: S, notes: Arc<TransferNotes>) -> Self
+        ensures { result ≡ record { rt = rt; next = next; notes = notes } }
+    {
+        NotingSvc { rt, next, notes }
+    }
+}
+
+/// A question for a transfer, and what of it was noted.
+#[derive(Drop)]
+struct Asked {
+    apex: Name,
+    client: SocketAddr,
+    notes: Arc<TransferNotes>,
+    state: State,
+}
+
+/// What was noted of a question for a transfer.
+#[derive(Clone, Copy, PartialEq, Eq)]
+enum State {
+    Nothing,
+    Begun,
+    Over,
+}
+
+/// Whether a question has a type that asks for a transfer.
+fn asks_transfer(qtype: u16) -> bool {
+    qtype == AXFR || qtype == IXFR
+}
+
+/// The zone of which a request asks for a transfer over a stream.
+fn asked_zone<Meta>(alloc: Global, request: &Request<Meta>) -> Result<Option<Name>, OutOfMemory> {
+    if !request.transport_ctx().is_non_udp() {
+        return Ok(None);
+    }
+    match request.message().first_question() {
+        Some(question) if asks_transfer(question.qtype().to_int()) => {
+            Ok(Some(question.qname().to_name(alloc)?))
+        }
+        _ => Ok(None),
+    }
+}
+
+impl Asked {
+    /// The question of a request, if it asks for a transfer.
+    fn of<Meta>(
+        alloc: Global,
+        request: &Request<Meta>,
+        notes: &Arc<TransferNotes>,
+    ) -> Result<Option<Asked>, OutOfMemory> {
+        match asked_zone(alloc, request)? {
+            Some(apex) => Ok(Some(Asked {
+                apex,
+                client: request.client_addr(),
+                notes: Arc::try_clone(notes)?,
+                state: State::Nothing,
+            })),
+            None => Ok(None),
+        }
+    }
+
+    /// Notes what happened. Without memory nothing is noted.
+    fn note<R: Wait>(&self, rt: &R, alloc: Global, news: TransferNews) {
+        if let Ok(apex) = self.apex.try_clone(alloc) {
+            let client = self.client;
+            self.notes.put(rt, TransferNote { apex, client, news });
+        }
+    }
+
+    /// Notes the first reply.
+    fn hear_first<R: Wait>(&mut self, rt: &R, alloc: Global, code: Rcode) {
+        if code == Rcode::NOERROR {
+            self.state = State::Begun;
+            self.note(rt, alloc, TransferNews::Begun);
+        } else {
+            self.state = State::Over;
+            self.note(rt, alloc, TransferNews::Refused(code));
+        }
+    }
+
+    /// Notes an item, where it is the first one.
+    fn hear_item<R: Wait>(&mut self, rt: &R, alloc: Global, item: &ServiceResult) {
+        if self.state != State::Nothing {
+            return;
+        }
+        if let Ok(given) = item {
+            if let Some(reply) = given.response() {
+                self.hear_first(rt, alloc, reply.header().rcode);
+            }
+        }
+    }
+
+    /// Notes the end, where a transfer began.
+    fn hear_end<R: Wait>(&mut self, rt: &R, alloc: Global) {
+        if self.state == State::Begun {
+            self.state = State::Over;
+            self.note(rt, alloc, TransferNews::Ended);
+        }
+    }
+}
+
+/// Notes what a poll gave.
+fn hear<R: Wait>(
+    rt: &R,
+    alloc: Global,
+    asked: &mut Option<Asked>,
+    polled: &Polled<Option<ServiceResult>>,
+) {
+    if let Some(asked) = asked {
+        match polled {
+            Polled::Ready(Some(item)) => asked.hear_item(rt, alloc, item),
+            Polled::Ready(None) => asked.hear_end(rt, alloc),
+            Polled::Pending => {}
+        }
+    }
+}
+
+/// The future of a service whose transfers are noted.
+#[derive(Drop)]
+pub struct NotingFuture<R, F> {
+    rt: R,
+    inner: F,
+    asked: Option<Asked>,
+}
+
+/// The stream of a service whose transfers are noted.
+#[derive(Drop)]
+pub struct NotingStream<R, T> {
+    rt: R,
+    inner: T,
+    asked: Option<Asked>,
+}
+
+impl<R, S, Meta> Service<Meta> for NotingSvc<R, S>
+where
+    R: Wait + Copy,
+    S: Service<Meta>,
+{
+    type Stream = NotingStream<R, S::Stream>;
+
+    type Future = NotingFuture<R, S::Future>;
+
+    ghost answer = { λ s. S.answer s.next };
+
+    ghost hint = { λ s. S.hint s.next };
+
+    ghost can_call = { λ s. S.can_call s.next };
+
+    fn call(
+        &self,
+        alloc: Global,
+        request: &mut Request<Meta>,
+    ) -> Result<NotingFuture<R, S::Future>, OutOfMemory> {
+        let asked = Asked::of(alloc, request, &self.notes)?;
+        let rt = self.rt;
+        let inner = self.next.call(alloc, request)?;
+        Ok(NotingFuture { rt, inner, asked })
+    }
+}
+
+impl<R: Wait + Copy, F: ReplyFuture> ReplyFuture for NotingFuture<R, F> {
+    type Stream = NotingStream<R, F::Stream>;
+
+    ghost answer = { λ f. F.answer f.inner };
+
+    fn poll(&mut self, alloc: Global) -> Result<Polled<NotingStream<R, F::Stream>>, OutOfMemory> {
+        let rt = self.rt;
+        match self.inner.poll(alloc)? {
+            Polled::Ready(inner) => Ok(Polled::Ready(NotingStream {
+                rt,
+                inner,
+                asked: self.asked.take(),
+            })),
+            Polled::Pending => Ok(Polled::Pending),
+        }
+    }
+}
+
+impl<R: Wait + Copy, T: ReplyStream> ReplyStream for NotingStream<R, T> {
+    ghost answer = { λ s. T.answer s.inner };
+
+    ghost size = { λ s. T.size s.inner };
+
+    fn poll_next(&mut self, alloc: Global) -> Result<Polled<Option<ServiceResult>>, OutOfMemory> {
+        let polled = self.inner.poll_next(alloc)?;
+        hear(&self.rt, alloc, &mut self.asked, &polled);
+        Ok(polled)
+    }
+
+    fn size_hint(&self) -> (usize, Option<usize>) {
+        self.inner.size_hint()
+    }
+}
