@@ -5,9 +5,8 @@ use Rattle.dns_message.specs.declared.question.Question.{Question}
 use Rattle.dns_service.specs.Once.{once}
 use Rattle.dns_service.specs.Req.{Req}
 use Rattle.dns_transfer.specs.Transfers.{transfer}
-use Rattle.dns_zone.specs.Owned.{ZoneState}
 use Rattle.dns_zone.proofs.PathLaws.{true_eq}
-use Rattle.dns_authority.specs.Authorities.{AsksTransfer, AuthorityState, TransfersAreAnswered, by_opcode, by_question, by_zone, coded, asked_zone, asks_transfer, may_transfer, zone_item, transferred, zone_for, zone_for_ds}
+use Rattle.dns_authority.specs.Authorities.{AsksTransfer, AuthorityState, ServedState, TransfersAreAnswered, by_opcode, by_question, by_zone, coded, asked_zone, asks_transfer, may_transfer, zone_item, transferred, zone_for, zone_for_ds}
 
 -- a transfer isn't asked for by DS
 no_ds : (a b : Bool) (t : ℕ) → nat_eq t 252 ≡ a → nat_eq t 251 ≡ b → (a || b) ≡ true → nat_eq t 43 ≡ false
@@ -15,16 +14,16 @@ no_ds true b t e f h = ap (λ (n : ℕ). nat_eq n 43) (true_eq t 252 e)
 no_ds false true t e f h = ap (λ (n : ℕ). nat_eq n 43) (true_eq t 251 f)
 no_ds false false t e f h = absurd (cc)
 
-asked_plain : (q : Question) (zs : List ZoneState) → asks_transfer q ≡ true → asked_zone q zs ≡ zone_for q.qname zs
+asked_plain : (q : Question) (zs : List ServedState) → asks_transfer q ≡ true → asked_zone q zs ≡ zone_for q.qname zs
 asked_plain q zs h = ap (λ (b : Bool). if b then zone_for_ds q.qname zs else zone_for q.qname zs) (no_ds (nat_eq q.qtype 252) (nat_eq q.qtype 251) q.qtype refl refl h)
 
 pub transfers_are_answered : {Meta : Type 0} → TransfersAreAnswered Meta
-transfers_are_answered a r q z h =
+transfers_are_answered a r q s h =
     let o = r.octets in
     let refused = once (coded o 5) in
-    ap (λ (k : ℕ). by_opcode a.allowed a.zones r k) h.query
-    ∙ (ap (λ (x : Option Question). by_question a.allowed a.zones r x) h.question
-    ∙ (ap (λ (k : ℕ). if nat_eq k 1 then by_zone a.allowed r q (asked_zone q a.zones) else refused) h.internet
-    ∙ (ap (λ (x : Option ZoneState). by_zone a.allowed r q x) (asked_plain q a.zones h.asked ∙ h.zone)
-    ∙ (ap (λ (b : Bool). if b then transferred a.allowed r q z else once (zone_item o q z)) h.asked
-    ∙ ap (λ (b : Bool). if b && may_transfer a.allowed r then transfer z o else refused) h.apex))))
+    ap (λ (k : ℕ). by_opcode a.zones r k) h.query
+    ∙ (ap (λ (x : Option Question). by_question a.zones r x) h.question
+    ∙ (ap (λ (k : ℕ). if nat_eq k 1 then by_zone r q (asked_zone q a.zones) else refused) h.internet
+    ∙ (ap (λ (x : Option ServedState). by_zone r q x) (asked_plain q a.zones h.asked ∙ h.zone)
+    ∙ (ap (λ (b : Bool). if b then transferred s.allowed r q s.zone else once (zone_item o q s.zone)) h.asked
+    ∙ ap (λ (b : Bool). if b && may_transfer s.allowed r then transfer s.zone o else refused) h.apex))))

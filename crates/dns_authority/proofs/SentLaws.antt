@@ -66,9 +66,10 @@ sent_small z h =
 -- ---- the answers
 
 pub transfers_are_the_records : {Meta : Type 0} → TransfersAreTheRecords Meta
-transfers_are_the_records a r q z n h m s few =
+transfers_are_the_records a r q v n h m s few =
     let o = r.octets in
+    let z = v.zone in
     let d = sole_asked o q h.question in
     let e : joined_answers (transfer z o) n ≡ transfer_records z = transfers_are_whole z o n (small_transfers_fit z o q d.0 d.1 (sent_small z s)) few in
-    ap (λ (x : ℕ → Answer). joined_answers x n) (transfers_are_answered a r q z h)
+    ap (λ (x : ℕ → Answer). joined_answers x n) (transfers_are_answered a r q v h)
     ∙ (ap (λ (b : Bool). joined_answers (if b then transfer z o else once (coded o 5)) n) m ∙ e)

@@ -1,5 +1,5 @@
 -- What an authority answers to a request: of its zones the one with the longest apex that ends the question's name replies.
-use Rattle.std.specs.Prelude.{ℕ, ◌≡◌, ◌≤◌, Bool, true, false, ◌&&◌, ◌||◌, not, List, [], ◌∷◌, length, nat_eq, nat_lt, if◌then◌else◌, Option, Some, None}
+use Rattle.std.specs.Prelude.{ℕ, ◌≡◌, ◌≤◌, Bool, true, false, ◌&&◌, ◌||◌, not, List, [], ◌∷◌, ◌++◌, length, nat_eq, nat_lt, if◌then◌else◌, Option, Some, None}
 use Rattle.std.specs.List.{AllByRecursion}
 use Rattle.std.specs.Option.{option_or}
 use Rattle.dns_name.specs.Canonical.{same_name}
@@ -18,36 +18,41 @@ use Rattle.dns_authority.specs.Networks.{is_in_any}
 use Rattle.dns_authority.specs.declared.networks.Network.{Network}
 use Rattle.dns_transfer.specs.Transfers.{message_item, transfer}
 
+-- a zone, and the networks that may transfer it
+pub record ServedState : Type 0 where
+  pub zone : ZoneState
+  pub allowed : List Network
+
 -- of two zones the one with the longer apex, of like ones the first
-abbrev pub longer : ZoneState → Option ZoneState → Option ZoneState
+abbrev pub longer : ServedState → Option ServedState → Option ServedState
 longer z None = Some z
-longer z (Some y) = if nat_lt (length z.apex) (length y.apex) then Some y else Some z
+longer z (Some y) = if nat_lt (length z.zone.apex) (length y.zone.apex) then Some y else Some z
 
 -- the zone with the longest apex that ends a name
-abbrev pub zone_for : List (List ℕ) → List ZoneState → Option ZoneState
+abbrev pub zone_for : List (List ℕ) → List ServedState → Option ServedState
 zone_for name [] = None
-zone_for name (z ∷ zs) = if ends_name name z.apex then longer z (zone_for name zs) else zone_for name zs
+zone_for name (z ∷ zs) = if ends_name name z.zone.apex then longer z (zone_for name zs) else zone_for name zs
 
 -- the zone with the longest apex that ends a name and isn't the name
-abbrev pub zone_above : List (List ℕ) → List ZoneState → Option ZoneState
+abbrev pub zone_above : List (List ℕ) → List ServedState → Option ServedState
 zone_above name [] = None
-zone_above name (z ∷ zs) = if not (same_name name z.apex) && ends_name name z.apex then longer z (zone_above name zs) else zone_above name zs
+zone_above name (z ∷ zs) = if not (same_name name z.zone.apex) && ends_name name z.zone.apex then longer z (zone_above name zs) else zone_above name zs
 
 -- the zone for DS records of a name: where that begins a zone, the zone above it, if it is served too (RFC 4035, section 3.1.4.1)
-abbrev pub zone_for_ds : List (List ℕ) → List ZoneState → Option ZoneState
+abbrev pub zone_for_ds : List (List ℕ) → List ServedState → Option ServedState
 zone_for_ds name zs = option_or (zone_above name zs) (zone_for name zs)
 
 -- the zone that a question asks
-abbrev pub asked_zone : Question → List ZoneState → Option ZoneState
+abbrev pub asked_zone : Question → List ServedState → Option ServedState
 asked_zone q zs = if nat_eq q.qtype 43 then zone_for_ds q.qname zs else zone_for q.qname zs
 
 -- where a zone's apex ends a name, it is no longer than another's
-abbrev pub IsNoLonger : List (List ℕ) → ZoneState → ZoneState → Type 0
-IsNoLonger name z y = ends_name name y.apex ≡ true → length y.apex ≤ length z.apex
+abbrev pub IsNoLonger : List (List ℕ) → ServedState → ServedState → Type 0
+IsNoLonger name z y = ends_name name y.zone.apex ≡ true → length y.zone.apex ≤ length z.zone.apex
 
 -- the zone that is found ends the name, and no other that does has a longer apex
 abbrev pub LongestAnswers : Type 0
-LongestAnswers = (name : List (List ℕ)) (zs : List ZoneState) (z : ZoneState) → zone_for name zs ≡ Some z → (ends_name name z.apex ≡ true) × AllByRecursion (IsNoLonger name z) zs
+LongestAnswers = (name : List (List ℕ)) (zs : List ServedState) (z : ServedState) → zone_for name zs ≡ Some z → (ends_name name z.zone.apex ≡ true) × AllByRecursion (IsNoLonger name z) zs
 
 -- ---- questions
 
@@ -81,42 +86,46 @@ transferred allowed r q z = if same_name q.qname z.apex && may_transfer allowed 
 -- ---- all requests
 
 -- by the zone that is asked
-abbrev pub by_zone : {Meta : Type 0} → List Network → Req Meta → Question → Option ZoneState → ℕ → Answer
-by_zone allowed r q None = once (coded r.octets 5)
-by_zone allowed r q (Some z) = if asks_transfer q then transferred allowed r q z else once (zone_item r.octets q z)
+abbrev pub by_zone : {Meta : Type 0} → Req Meta → Question → Option ServedState → ℕ → Answer
+by_zone r q None = once (coded r.octets 5)
+by_zone r q (Some s) = if asks_transfer q then transferred s.allowed r q s.zone else once (zone_item r.octets q s.zone)
 
 -- by the class
-abbrev pub by_class : {Meta : Type 0} → List Network → List ZoneState → Req Meta → Question → ℕ → Answer
-by_class allowed zs r q = if nat_eq q.qclass 1 then by_zone allowed r q (asked_zone q zs) else once (coded r.octets 5)
+abbrev pub by_class : {Meta : Type 0} → List ServedState → Req Meta → Question → ℕ → Answer
+by_class zs r q = if nat_eq q.qclass 1 then by_zone r q (asked_zone q zs) else once (coded r.octets 5)
 
 -- by the one question
-abbrev pub by_question : {Meta : Type 0} → List Network → List ZoneState → Req Meta → Option Question → ℕ → Answer
-by_question allowed zs r None = once (coded r.octets 1)
-by_question allowed zs r (Some q) = by_class allowed zs r q
+abbrev pub by_question : {Meta : Type 0} → List ServedState → Req Meta → Option Question → ℕ → Answer
+by_question zs r None = once (coded r.octets 1)
+by_question zs r (Some q) = by_class zs r q
 
 -- by the opcode: another than QUERY isn't implemented
-abbrev pub by_opcode : {Meta : Type 0} → List Network → List ZoneState → Req Meta → ℕ → ℕ → Answer
-by_opcode allowed zs r opcode = if nat_eq opcode 0 then by_question allowed zs r (sole_question r.octets) else once (coded r.octets 4)
+abbrev pub by_opcode : {Meta : Type 0} → List ServedState → Req Meta → ℕ → ℕ → Answer
+by_opcode zs r opcode = if nat_eq opcode 0 then by_question zs r (sole_question r.octets) else once (coded r.octets 4)
 
--- the zones of an authority, and the networks that may transfer them
+-- the zones of an authority, and the networks that may transfer those that are added without networks of their own
 pub record AuthorityState : Type 0 where
-  pub zones : List ZoneState
+  pub zones : List ServedState
   pub allowed : List Network
 
+-- a zone that these networks may transfer is behind the others
+abbrev pub and_zone : List Network → ZoneState → AuthorityState → AuthorityState
+and_zone allowed z a = record a { zones = a.zones ++ (record { zone = z; allowed = allowed }) ∷ [] }
+
 abbrev pub authority_answer : {Meta : Type 0} → AuthorityState → Req Meta → ℕ → Answer
-authority_answer a r = by_opcode a.allowed a.zones r (header_of r.octets).opcode
+authority_answer a r = by_opcode a.zones r (header_of r.octets).opcode
 
 -- ---- what is answered to a transfer
 
 -- a query for a transfer at the apex of the zone that it asks
-pub record AsksTransfer {Meta : Type 0} (a : AuthorityState) (r : Req Meta) (q : Question) (z : ZoneState) : Type 0 where
+pub record AsksTransfer {Meta : Type 0} (a : AuthorityState) (r : Req Meta) (q : Question) (s : ServedState) : Type 0 where
   pub query : (header_of r.octets).opcode ≡ 0
   pub question : sole_question r.octets ≡ Some q
   pub internet : q.qclass ≡ 1
-  pub zone : zone_for q.qname a.zones ≡ Some z
+  pub zone : zone_for q.qname a.zones ≡ Some s
   pub asked : asks_transfer q ≡ true
-  pub apex : same_name q.qname z.apex ≡ true
+  pub apex : same_name q.qname s.zone.apex ≡ true
 
 -- is answered by the transfer where it is allowed, and else REFUSED
 abbrev pub TransfersAreAnswered : Type 0 → Type 0
-TransfersAreAnswered Meta = (a : AuthorityState) (r : Req Meta) (q : Question) (z : ZoneState) → AsksTransfer a r q z → authority_answer a r ≡ (if may_transfer a.allowed r then transfer z r.octets else once (coded r.octets 5))
+TransfersAreAnswered Meta = (a : AuthorityState) (r : Req Meta) (q : Question) (s : ServedState) → AsksTransfer a r q s → authority_answer a r ≡ (if may_transfer s.allowed r then transfer s.zone r.octets else once (coded r.octets 5))

@@ -12,9 +12,9 @@ ghost use Rattle.dns_service.specs.Req.{hint_at_entry};
 ghost use Rattle.dns_service.specs.Transport.{is_stream};
 ghost use Rattle.dns_route.specs.Routes.{ends_name};
 ghost use Rattle.dns_zone.specs.ZoneTurns.{zone_begun};
-ghost use Rattle.dns_authority.specs.Authorities.{asked_zone, asks_transfer, authority_answer, by_class, by_question, by_zone, coded, longer, may_transfer, sole_question, transferred, zone_above, zone_for, zone_for_ds};
+ghost use Rattle.dns_authority.specs.Authorities.{and_zone, asked_zone, asks_transfer, authority_answer, by_class, by_question, by_zone, coded, longer, may_transfer, sole_question, transferred, zone_above, zone_for, zone_for_ds};
 
-use crate::networks::{Network, is_in_any};
+use crate::networks::Network;
 use crate::stream::{AuthorityFuture, AuthorityStream};
 use crate::zones::ServedZone;
 use dns_base::{AdditionalBuilder, Class, Message, Opcode, PushError, QuestionRef, Rcode, Rtype};
@@ -25,8 +25,8 @@ use dns_zone_tree::ZoneTree;
 use std::alloc::Global;
 use std::marker::Model;
 
-/// Answers with the zone that has the longest apex which ends a question's name, and transfers its zones to the networks that
-/// are allowed.
+/// Answers with the zone that has the longest apex which ends a question's name, and transfers each zone to the networks that
+/// may have it.
 #[derive(Drop)]
 pub struct Authority {
     zones: Vec<ServedZone>,
@@ -42,7 +42,7 @@ impl Model for Authority {
 }
 
 impl Authority {
-    /// An authority with no zone, whose zones may be transferred to these networks.
+    /// An authority with no zone. A zone that is added without networks of its own may be transferred to these.
     pub fn new(alloc: Global, allowed: Vec<Network>) -> Authority
         ensures { result ≡ record { zones = []; allowed = allowed.items } }
     {
@@ -52,12 +52,26 @@ impl Authority {
         }
     }
 
-    /// Adds a zone behind the others. A refused call leaves the authority.
+    /// Adds a zone behind the others, which may be transferred to the authority's networks. A refused call leaves the authority.
     pub fn add(&mut self, alloc: Global, zone: ZoneTree) -> Result<(), OutOfMemory>
-        ensures ok { OnOk result (self.new ≡ record self.old { zones = self.old.zones ++ zone ∷ [] }) }
+        ensures ok { OnOk result (self.new ≡ and_zone self.old.allowed zone self.old) }
         ensures err { OnErr result (self.new ≡ self.old) }
     {
-        let served = ServedZone::new(alloc, zone)?;
+        let allowed = Vec::from_slice(alloc, self.allowed.as_slice())?;
+        self.add_for(alloc, zone, allowed)
+    }
+
+    /// Adds a zone behind the others, which may be transferred to these networks. A refused call leaves the authority.
+    pub fn add_for(
+        &mut self,
+        alloc: Global,
+        zone: ZoneTree,
+        allowed: Vec<Network>,
+    ) -> Result<(), OutOfMemory>
+        ensures ok { OnOk result (self.new ≡ and_zone allowed.items zone self.old) }
+        ensures err { OnErr result (self.new ≡ self.old) }
+    {
+        let served = ServedZone::new(alloc, zone, allowed)?;
         self.zones.push(served)?;
         Ok(())
     }
@@ -116,8 +130,8 @@ impl Authority {
         question: &QuestionRef<'_>,
         zone: &ServedZone,
     ) -> Result<AuthorityStream, OutOfMemory>
-        requires { IsTrue (ends_name question.now.qname zone.now.apex) }
-        ensures { IfOk result (λ s. ⟦<AuthorityStream as ReplyStream>⟧.answer s ≡ by_zone self.now.allowed request.now question.now (Some zone.now)) }
+        requires { IsTrue (ends_name question.now.qname zone.now.zone.apex) }
+        ensures { IfOk result (λ s. ⟦<AuthorityStream as ReplyStream>⟧.answer s ≡ by_zone request.now question.now (Some zone.now)) }
     {
         if asks_transfer(question) {
             return self.transferred(alloc, request, question, zone);
@@ -136,31 +150,11 @@ impl Authority {
     ) -> Result<AuthorityStream, OutOfMemory>
         ensures { IfOk result (λ s. ⟦<AuthorityStream as ReplyStream>⟧.answer s ≡ transferred self.now.allowed request.now question.now zone.now) }
     {
-        if self.allows(request, question, zone) {
+        if zone.allows(request, question) {
             let transfer = zone.transfer(request)?;
             return Ok(AuthorityStream::Transferred(transfer));
         }
         coded(alloc, request, Rcode::REFUSED)
-    }
-
-    /// Whether a zone may be transferred for a request.
-    fn allows<Meta>(
-        &self,
-        request: &Request<Meta>,
-        question: &QuestionRef<'_>,
-        zone: &ServedZone,
-    ) -> bool
-        ensures { result ≡ (same_name question.now.qname zone.now.apex && may_transfer self.now.allowed request.now) }
-    {
-        zone.is_named(question) && self.may_transfer(request)
-    }
-
-    /// Whether a request may ask for a transfer.
-    fn may_transfer<Meta>(&self, request: &Request<Meta>) -> bool
-        ensures { result ≡ may_transfer self.now.allowed request.now }
-    {
-        request.transport_ctx().is_non_udp()
-            && is_in_any(self.allowed.as_slice(), request.client_addr().ip)
     }
 
     /// What is answered to a question for class IN.
@@ -170,7 +164,7 @@ impl Authority {
         request: &Request<Meta>,
         question: &QuestionRef<'_>,
     ) -> Result<AuthorityStream, OutOfMemory>
-        ensures { IfOk result (λ s. ⟦<AuthorityStream as ReplyStream>⟧.answer s ≡ by_zone self.now.allowed request.now question.now (asked_zone question.now self.now.zones)) }
+        ensures { IfOk result (λ s. ⟦<AuthorityStream as ReplyStream>⟧.answer s ≡ by_zone request.now question.now (asked_zone question.now self.now.zones)) }
     {
         match self.asked_zone(question) {
             Some(zone) => self.asked(alloc, request, question, zone),
@@ -185,7 +179,7 @@ impl Authority {
         request: &Request<Meta>,
         question: &QuestionRef<'_>,
     ) -> Result<AuthorityStream, OutOfMemory>
-        ensures { IfOk result (λ s. ⟦<AuthorityStream as ReplyStream>⟧.answer s ≡ by_class self.now.allowed self.now.zones request.now question.now) }
+        ensures { IfOk result (λ s. ⟦<AuthorityStream as ReplyStream>⟧.answer s ≡ by_class self.now.zones request.now question.now) }
     {
         if is_internet(question) {
             return self.found(alloc, request, question);
@@ -199,7 +193,7 @@ impl Authority {
         alloc: Global,
         request: &Request<Meta>,
     ) -> Result<AuthorityStream, OutOfMemory>
-        ensures { IfOk result (λ s. ⟦<AuthorityStream as ReplyStream>⟧.answer s ≡ by_question self.now.allowed self.now.zones request.now (sole_question request.now.octets)) }
+        ensures { IfOk result (λ s. ⟦<AuthorityStream as ReplyStream>⟧.answer s ≡ by_question self.now.zones request.now (sole_question request.now.octets)) }
     {
         match sole_question(request) {
             Some(question) => self.classed(alloc, request, &question),
@@ -302,7 +296,7 @@ fn better<'a>(
     best: Option<&'a ServedZone>,
     question: &QuestionRef<'_>,
 ) -> Option<&'a ServedZone>
-    ensures { option_copied result ≡ (if ends_name question.now.qname zone.now.apex then longer zone.now (option_copied best.entry) else option_copied best.entry) }
+    ensures { option_copied result ≡ (if ends_name question.now.qname zone.now.zone.apex then longer zone.now (option_copied best.entry) else option_copied best.entry) }
 {
     if !zone.ends(question) {
         return best;
@@ -319,7 +313,7 @@ fn better_above<'a>(
     best: Option<&'a ServedZone>,
     question: &QuestionRef<'_>,
 ) -> Option<&'a ServedZone>
-    ensures { option_copied result ≡ (if not (same_name question.now.qname zone.now.apex) && ends_name question.now.qname zone.now.apex then longer zone.now (option_copied best.entry) else option_copied best.entry) }
+    ensures { option_copied result ≡ (if not (same_name question.now.qname zone.now.zone.apex) && ends_name question.now.qname zone.now.zone.apex then longer zone.now (option_copied best.entry) else option_copied best.entry) }
 {
     if zone.is_named(question) {
         return best;

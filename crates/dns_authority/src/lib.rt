@@ -1,8 +1,8 @@
 //! A name server of several zones: the zone for a question, transfers out, and who may have them.
 //!
-//! - `Authority` is a service with zones by their apex. `Authority::new` takes the networks that transfers are
-//!   allowed to.
-//! - `add` adds a `ZoneTree` of dns_zone_tree, whose records each have room in a reply.
+//! - `Authority` is a service with zones by their apex.
+//! - `add` adds a `ZoneTree` of dns_zone_tree, whose records each have room in a reply. It may be transferred to the
+//!   networks of `Authority::new`, or to those of its own that `add_for` takes.
 //! - `Network` is the addresses whose first bits are those of an address.
 //! - `AuthorityStream` and `AuthorityFuture` are its replies: one reply, or the replies of a transfer.
 //!
@@ -11,7 +11,7 @@
 //!
 //! ```text
 //! question -> no zone, or another class than IN: REFUSED
-//!          -> AXFR, IXFR at the apex, over a stream: the address is allowed ? the transfer : REFUSED
+//!          -> AXFR, IXFR at the apex, over a stream: the address may have the zone ? the transfer : REFUSED
 //!          -> the zone with the longest apex -> the reply of a name server
 //! ```
 //!
@@ -19,7 +19,7 @@
 //!
 //! - The zone with the longest apex that ends the question's name answers (`the_longest_apex_answers`).
 //! - A query for a transfer gets it if it is allowed, and else REFUSED (`transfers_are_answered`). Its answer
-//!   records, joined, are those of the zone (`transfers_are_the_records`).
+//!   records, joined, are those of the zone (`transfers_are_the_records`), of each zone that is made (`zones_are_sent`).
 //! - NOTIMP is the reply to another opcode than QUERY, and FORMERR to a query without one readable question.
 //! - A refused `add` leaves the authority.
 //!
@@ -36,6 +36,8 @@ mod zones;
 
 pub use authority::Authority;
 pub use dns_transfer::Transfer;
-pub use laws::{the_longest_apex_answers, transfers_are_answered, transfers_are_the_records};
+pub use laws::{
+    the_longest_apex_answers, transfers_are_answered, transfers_are_the_records, zones_are_sent,
+};
 pub use networks::Network;
 pub use stream::{AuthorityFuture, AuthorityStream};

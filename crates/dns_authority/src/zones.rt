@@ -1,13 +1,14 @@
 //! A zone as it is served.
 
-ghost use Rattle.std.specs.Prelude.{◌≡◌, ◌↔◌, IsTrue, IfOk, None, length};
+ghost use Rattle.std.specs.Prelude.{◌≡◌, ◌↔◌, ◌&&◌, IsTrue, IfOk, None, length};
 ghost use Rattle.std.specs.Arc.{arc_value};
 ghost use Rattle.dns_name.specs.Canonical.{same_name};
 ghost use Rattle.dns_route.specs.Routes.{ends_name};
-ghost use Rattle.dns_authority.specs.Authorities.{zone_item};
+ghost use Rattle.dns_authority.specs.Authorities.{may_transfer, zone_item};
 ghost use Rattle.dns_transfer.specs.Transfers.{transfer};
 
 use crate::laws::same_names_are_folded;
+use crate::networks::{Network, is_in_any};
 use dns_base::QuestionRef;
 use dns_name_server::name_server_reply;
 use dns_route::matches_are_suffixes;
@@ -18,39 +19,48 @@ use std::alloc::Global;
 use std::marker::Model;
 use std::sync::Arc;
 
-/// A zone, and its records in the bunches of a transfer.
+/// A zone, the networks to which it may be transferred, and its records in the bunches of a transfer.
 #[derive(Drop)]
 pub(crate) struct ServedZone {
     zone: ZoneTree,
+    allowed: Vec<Network>,
     bunches: Arc<Bunches>,
 }
 
 impl Model for ServedZone {
     ghost use Rattle.std.specs.Prelude.{◌≡◌};
     ghost use Rattle.std.specs.Arc.{arc_value};
-    ghost use Rattle.dns_zone.specs.Owned.{ZoneState};
     ghost use Rattle.dns_transfer.specs.Transfers.{bunched, transfer_records};
+    ghost use Rattle.dns_authority.specs.Authorities.{ServedState};
 
-    ghost Value = { ZoneState };
+    ghost Value = { ServedState };
 
-    ghost view = { λ s. s.zone };
+    ghost view = { λ s. record { zone = s.zone; allowed = s.allowed.items } };
 
     ghost invariant = { λ s. arc_value s.bunches ≡ bunched (transfer_records s.zone) };
 }
 
 impl ServedZone {
-    /// A zone as it is served.
-    pub(crate) fn new(alloc: Global, zone: ZoneTree) -> Result<ServedZone, OutOfMemory>
-        ensures { IfOk result (λ s. s ≡ zone) }
+    /// A zone that may be transferred to these networks.
+    pub(crate) fn new(
+        alloc: Global,
+        zone: ZoneTree,
+        allowed: Vec<Network>,
+    ) -> Result<ServedZone, OutOfMemory>
+        ensures { IfOk result (λ s. s ≡ record { zone = zone; allowed = allowed.items }) }
     {
         let bunches = Bunches::of(alloc, zone.records())?;
         let bunches = Arc::new(alloc, bunches)?;
-        Ok(ServedZone { zone, bunches })
+        Ok(ServedZone {
+            zone,
+            allowed,
+            bunches,
+        })
     }
 
     /// Whether its apex ends the name of a question.
     pub(crate) fn ends(&self, question: &QuestionRef<'_>) -> bool
-        ensures { result ≡ ends_name question.now.qname self.now.apex }
+        ensures { result ≡ ends_name question.now.qname self.now.zone.apex }
     {
         matches_are_suffixes();
         question.qname().ends_with(&self.zone.apex().for_ref())
@@ -58,15 +68,30 @@ impl ServedZone {
 
     /// Whether its apex is the name of a question.
     pub(crate) fn is_named(&self, question: &QuestionRef<'_>) -> bool
-        ensures { result ≡ same_name question.now.qname self.now.apex }
+        ensures { result ≡ same_name question.now.qname self.now.zone.apex }
     {
         same_names_are_folded();
         question.qname().name_eq(&self.zone.apex().for_ref())
     }
 
+    /// Whether it is transferred for a request and a question.
+    pub(crate) fn allows<Meta>(&self, request: &Request<Meta>, question: &QuestionRef<'_>) -> bool
+        ensures { result ≡ (same_name question.now.qname self.now.zone.apex && may_transfer self.now.allowed request.now) }
+    {
+        self.is_named(question) && self.may_transfer(request)
+    }
+
+    /// Whether a request may ask for its transfer.
+    fn may_transfer<Meta>(&self, request: &Request<Meta>) -> bool
+        ensures { result ≡ may_transfer self.now.allowed request.now }
+    {
+        request.transport_ctx().is_non_udp()
+            && is_in_any(self.allowed.as_slice(), request.client_addr().ip)
+    }
+
     /// How many labels its apex has.
     pub(crate) fn labels(&self) -> usize
-        ensures { result ≡ length self.now.apex }
+        ensures { result ≡ length self.now.zone.apex }
     {
         self.zone.apex().label_count() - 1
     }
@@ -78,8 +103,8 @@ impl ServedZone {
         request: &Request<Meta>,
         question: &QuestionRef<'_>,
     ) -> Result<ServiceResult, OutOfMemory>
-        requires { IsTrue (ends_name question.now.qname self.now.apex) }
-        ensures { IfOk result (λ i. i ≡ zone_item request.now.octets question.now self.now) }
+        requires { IsTrue (ends_name question.now.qname self.now.zone.apex) }
+        ensures { IfOk result (λ i. i ≡ zone_item request.now.octets question.now self.now.zone) }
     {
         let built = name_server_reply(&self.zone, alloc, request.message(), question);
         message_item(built, None)
@@ -87,7 +112,7 @@ impl ServedZone {
 
     /// Its transfer.
     pub(crate) fn transfer<Meta>(&self, request: &Request<Meta>) -> Result<Transfer, OutOfMemory>
-        ensures { IfOk result (λ t. ⟦<Transfer as ReplyStream>⟧.answer t ≡ transfer self.now request.now.octets) }
+        ensures { IfOk result (λ t. ⟦<Transfer as ReplyStream>⟧.answer t ≡ transfer self.now.zone request.now.octets) }
     {
         let bunches = Arc::try_clone(&self.bunches)?;
         let query = Arc::try_clone(request.message())?;

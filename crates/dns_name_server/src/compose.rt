@@ -191,13 +191,7 @@ fn found(
     ensures { Builds (unlimited (wire_message query.now (behind given (wired (authoritative (at_places zone.now.records (kind_places rtype kinds.now))))))) result }
 {
     let mut answers = given;
-    add_kinds(
-        alloc,
-        zone.records(),
-        kinds.as_slice(),
-        rtype,
-        &mut answers,
-    )?;
+    add_kinds(alloc, zone.records(), kinds.as_slice(), rtype, &mut answers)?;
     alone(alloc, query, Rcode::NOERROR, &answers)
 }
 

@@ -194,14 +194,7 @@ fn give_kind<'a>(
     ensures { IfOk result (λ e. behind given.new (wired (end_reply zone.now e)) ≡ behind given.old (wired (own_reply zone.now (map (given_as name.now) (at_places zone.now.records (kind_places rtype kinds.now)))))) }
 {
     let start = given.len();
-    give(
-        alloc,
-        zone.records(),
-        kinds.as_slice(),
-        rtype,
-        name,
-        given,
-    )?;
+    give(alloc, zone.records(), kinds.as_slice(), rtype, name, given)?;
     let end = given.len();
     if end == start {
         return Ok(End::Denied(true));

@@ -1,5 +1,5 @@
 -- All replies of a request that are in a transaction were sent, in order.
-use Rattle.std.proofs.Common.{◌≡◌, ◌≢◌, ◌≤◌, ◌<◌, ◌⊎◌, ℕ, suc, ◌+◌, inl, inr, Bool, true, false, List, [], ◌∷◌, ◌++◌, length, map, Option, Some, None, refl, ap, sym, subst, ◌∙◌, arith, append-nil}
+use Rattle.std.proofs.Common.{◌≡◌, ◌≢◌, ◌≤◌, ◌<◌, ◌⊎◌, ℕ, zero, suc, ◌+◌, inl, inr, Bool, true, false, List, [], ◌∷◌, ◌++◌, length, map, Option, Some, None, refl, ap, sym, subst, ◌∙◌, arith, append-nil}
 use Rattle.std.specs.Prelude.{slice_get, option_map, if◌then◌else◌, nat_le, Ok, Err}
 use Rattle.std.proofs.lemmas.List.{length-map}
 use Rattle.std.proofs.lemmas.Bool.Decides.{nat_tests}
@@ -54,7 +54,7 @@ get_short [] n x h = absurd (cc)
 get_short (y ∷ xs) n x h = by_place n h
   where
     by_place : (n : ℕ) → slice_get (y ∷ xs) n ≡ Some x → n < length (y ∷ xs)
-    by_place 0 h = omega arith
+    by_place zero h = omega arith
     by_place (suc n) h = omega (arith, get_short xs n x h)
 
 module _ (answers : Serving) (settings : Settings) (c k : ℕ) (es : List Event) (r : SlateRequest) (replies : List (List ℕ)) (w : IsWritten (slate answers settings c es) k r (length replies)) (a : AreReplies answers k r replies) (waits : WaitsInOrder) (missing : NoneIsMissing) where
@@ -104,7 +104,7 @@ le_true a b h = grind (arith, nat_tests)
 
 map_get : {X Y : Type 0} (f : X → Y) (xs : List X) (n : ℕ) (y : Y) → slice_get (map f xs) n ≡ Some y → (x : X) × (slice_get xs n ≡ Some x) × (f x ≡ y)
 map_get f [] n y h = absurd (cc)
-map_get f (x ∷ xs) 0 y h = (x, refl, cc)
+map_get f (x ∷ xs) zero y h = (x, refl, cc)
 map_get f (x ∷ xs) (suc n) y h = map_get f xs n y h
 
 module _ (answers : Serving) (k : ℕ) (r : SlateRequest) (z : ZoneState) (is : answers.answer r.request ≡ transfer z r.request.octets) (fits : TransferFits (bunched (transfer_records z)) r.request.octets) where

@@ -31,11 +31,7 @@ fn add_kind(set: &mut BTreeSet<usize>, kind: &TypedPlace, rtype: u16) -> Result<
 }
 
 /// Adds the places of a type to a set.
-fn add_all(
-    set: &mut BTreeSet<usize>,
-    kinds: &[TypedPlace],
-    rtype: u16,
-) -> Result<(), OutOfMemory>
+fn add_all(set: &mut BTreeSet<usize>, kinds: &[TypedPlace], rtype: u16) -> Result<(), OutOfMemory>
     ensures { OnOk result ((i : ℕ) → contains nat_cmp set.new i ≡ (contains nat_cmp set.old i || list_any (nat_eq i) (places_of rtype kinds.now))) }
 {
     'each: for kind in kinds {
@@ -122,11 +118,7 @@ impl ZoneTree {
     }
 
     /// The places of the addresses of the hosts that the NS records at places name, as a set.
-    fn addresses(
-        &self,
-        alloc: Global,
-        kinds: &[TypedPlace],
-    ) -> Result<BTreeSet<usize>, OutOfMemory>
+    fn addresses(&self, alloc: Global, kinds: &[TypedPlace]) -> Result<BTreeSet<usize>, OutOfMemory>
         ensures { IfOk result (λ s. (i : ℕ) → contains nat_cmp s i ≡ passes (is_glue (at_places self.now.records (places_of 2 kinds.now))) (slice_get self.now.records i)) }
     {
         let mut addresses = BTreeSet::new(alloc);

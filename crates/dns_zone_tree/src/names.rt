@@ -33,12 +33,7 @@ pub(crate) fn kinds_at<'a>(names: &'a Names, key: &[u8]) -> Option<&'a Kinds>
 }
 
 /// Keeps a place of a type under a key that is there.
-fn put_behind(
-    names: &mut Names,
-    key: &[u8],
-    rtype: u16,
-    place: u32,
-) -> Result<(), OutOfMemory>
+fn put_behind(names: &mut Names, key: &[u8], rtype: u16, place: u32) -> Result<(), OutOfMemory>
     requires { IsSome (kinds_under names.old key.now) }
     ensures { OnOk result (Puts names.old key.now rtype place names.new) }
 {

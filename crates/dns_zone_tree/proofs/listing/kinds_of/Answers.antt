@@ -11,8 +11,8 @@ returns-in-Some c =
     if_ok (λ m. (t : ℕ) → kind_places t m ≡ kind_places t c.in-Some.kinds.now) (λ m. (t : ℕ) → kind_places t m ≡ places_under names (canonical_key c.args.name.now) t) c.try_clone.result c.try_clone.ensures
     (λ m f t. f t ∙ ap (places_in t) (c.in-Some.ensures ∙ ap (kinds_under names) o))
 
-pub returns-in-None : goal.returns-in-None
-returns-in-None c = λ t.
+pub returns : goal.returns
+returns c = λ t.
     let names = c.args.names.now in
     let o : c.as_slice.result.now ≡ canonical_key c.args.name.now = c.as_slice.ensures.value ∙ (c.in_ok-key.ensures ∙ ap canonical_key c.for_ref.ensures.value) in
     c.new.ensures t ∙ ap (places_in t) (c.in-None.ensures ∙ ap (kinds_under names) o)
