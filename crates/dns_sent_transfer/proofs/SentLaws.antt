@@ -51,11 +51,8 @@ empty_waiting answers ms q e h = by_list ms (subst (AreQueued answers ms) e h)
 
 get_short : {X : Type 0} (xs : List X) (n : ℕ) (x : X) → slice_get xs n ≡ Some x → n < length xs
 get_short [] n x h = absurd (cc)
-get_short (y ∷ xs) n x h = by_place n h
-  where
-    by_place : (n : ℕ) → slice_get (y ∷ xs) n ≡ Some x → n < length (y ∷ xs)
-    by_place zero h = omega arith
-    by_place (suc n) h = omega (arith, get_short xs n x h)
+get_short (y ∷ xs) zero x h = omega arith
+get_short (y ∷ xs) (suc n) x h = omega (arith, get_short xs n x h)
 
 module _ (answers : Serving) (settings : Settings) (c k : ℕ) (es : List Event) (r : SlateRequest) (replies : List (List ℕ)) (w : IsWritten (slate answers settings c es) k r (length replies)) (a : AreReplies answers k r replies) (waits : WaitsInOrder) (missing : NoneIsMissing) where
   abbrev t : Trail
