@@ -1,5 +1,5 @@
 -- How far each request of an open connection is: as its answers say. So what is dropped is outside of a transaction.
-use Rattle.std.proofs.Common.{◌≡◌, ℕ, zero, suc, ◌+◌, ◌-◌, Bool, true, false, List, [], ◌∷◌, ◌++◌, length, Option, Some, None, refl, ap, sym, subst, ◌∙◌, arith}
+use Rattle.std.proofs.Common.{◌≡◌, ℕ, zero, suc, ◌+◌, ◌-◌, Bool, true, false, List, [], ◌∷◌, ◌++◌, length, drop, Option, Some, None, refl, ap, sym, subst, ◌∙◌, arith}
 use Rattle.std.specs.Prelude.{◌&&◌, not, is_some, nat_lt, slice_get, slice_set, if◌then◌else◌}
 use Rattle.dns_base.specs.Header.{header_of}
 use Rattle.dns_base.specs.Msg.{Msg}
@@ -146,7 +146,7 @@ module _ (answers : Serving) where
     exchanges = λ addr o s is p over h. tt;
     opens = λ addr s is p over h. none_status s.requests (subst (λ (x : Phase). Stands x s.requests) p h);
     polls = λ k r s is p at d h. subst (λ (x : Phase). Stands x (slice_set s.requests k (polled (answers.answer r.request r.polls) r))) (sym p) tt;
-    takes = λ o s is p h. frames_stand e.at e.secs _ (record s { received = s.received ++ o }) (record { phase = p; requests = (open_stands s p h).requests });
+    takes = λ o s is p h. frames_stand e.at e.secs (drop s.taken (frames (s.received ++ o))) (record s { received = s.received ++ o }) (record { phase = p; requests = (open_stands s p h).requests });
     turns = λ k r s is p at d h. stands_open (turn_request answers e.at k r.held r s) (turn_stands e.at k r.held r s at (open_stands s p h));
     writes = λ m ms s p is h. written_stands e.at m ms s h;
     flushes = λ why m ms s p is h. flushed_stands why m ms s h;
@@ -172,7 +172,7 @@ module _ (answers : Serving) where
   none_outside i m at = absurd (cc)
 
   outside_append : (xs ys : List Origin) → AreOutside xs → AreOutside ys → AreOutside (xs ++ ys)
-  outside_append [] ys h g = g
+  outside_append [] ys h g i m at = g i m at
   outside_append (x ∷ xs) ys h g zero m at = h zero m at
   outside_append (x ∷ xs) ys h g (suc i) m at = outside_append xs ys (λ j n e. h (suc j) n e) g i m at
 
