@@ -4,7 +4,9 @@ ghost use Rattle.std.specs.Prelude.{◌≡◌, ◌↔◌, ℕ, List, IsTrue};
 ghost use Rattle.dns_name.specs.Canonical.{same_name};
 ghost use Rattle.dns_name.specs.Labels.{folded};
 ghost use Rattle.dns_authority.specs.Authorities.{LongestAnswers, TransfersAreAnswered};
-ghost use Rattle.dns_authority.specs.Served.{TransfersAreTheRecords};
+ghost use Rattle.dns_authority.specs.Served.{TheZoneIsSent, TransfersAreTheRecords};
+
+use dns_zone_tree::ZoneTree;
 
 /// The zone that answers has the longest apex that ends the name.
 pub fn the_longest_apex_answers()
@@ -22,6 +24,13 @@ pub fn transfers_are_answered<Meta>()
 pub fn transfers_are_the_records<Meta>()
     ensures { TransfersAreTheRecords Meta }
 {}
+
+/// The answer records of a transfer of a zone that is allowed, joined, are those of the zone, whatever zone was made.
+pub fn zones_are_sent<Meta>(zone: &ZoneTree)
+    ensures { TheZoneIsSent Meta zone.now }
+{
+    zone.records();
+}
 
 /// Names are the same exactly where their labels are, in lower case.
 #[tactic(auto, using(crate::proofs::ZoneForLaws::same_names))]

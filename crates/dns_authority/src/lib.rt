@@ -19,7 +19,7 @@
 //!
 //! - The zone with the longest apex that ends the question's name answers (`the_longest_apex_answers`).
 //! - A query for a transfer gets it if it is allowed, and else REFUSED (`transfers_are_answered`). Its answer
-//!   records, joined, are those of the zone (`transfers_are_the_records`).
+//!   records, joined, are those of the zone (`transfers_are_the_records`), of each zone that is made (`zones_are_sent`).
 //! - NOTIMP is the reply to another opcode than QUERY, and FORMERR to a query without one readable question.
 //! - A refused `add` leaves the authority.
 //!
@@ -36,6 +36,8 @@ mod zones;
 
 pub use authority::Authority;
 pub use dns_transfer::Transfer;
-pub use laws::{the_longest_apex_answers, transfers_are_answered, transfers_are_the_records};
+pub use laws::{
+    the_longest_apex_answers, transfers_are_answered, transfers_are_the_records, zones_are_sent,
+};
 pub use networks::Network;
 pub use stream::{AuthorityFuture, AuthorityStream};

@@ -2,19 +2,22 @@
 use Rattle.std.proofs.Common.{◌≡◌, ℕ, suc, ◌+◌, ◌-◌, ◌<◌, Bool, true, false, List, [], ◌∷◌, ◌++◌, length, map, drop, take, get_or, Option, Some, None, refl, ap, sym, subst, ◌∙◌, arith, append_assoc, append-nil, length-append}
 use Rattle.std.specs.Prelude.{◌||◌, if◌then◌else◌, is_some, option_map}
 use Rattle.std.specs.List.{cons_option, slice_get}
-use Rattle.std.proofs.lemmas.List.{drop_more, map-append, take_more}
+use Rattle.std.proofs.lemmas.List.{map-append, take_more}
 use Rattle.std.proofs.lemmas.List.Elements.{filter_map-append}
 use Rattle.dns_name.specs.Names.{name_under}
 use Rattle.dns_base.specs.Msg.{ResourceRecord}
 use Rattle.dns_base.specs.Records.{record_of}
 use Rattle.dns_message.specs.declared.record.Record.{Record}
 use Rattle.dns_zone.specs.Owned.{ZoneState, asked_records, is_asked, target}
-use Rattle.dns_zone.specs.Places.{Kinds, at_places, kind_places, places}
+use Rattle.dns_zone.specs.Places.{at_places, places}
 use Rattle.dns_zone.specs.ZoneReply.{ZoneReply, authoritative, denied, exists, follows}
 use Rattle.dns_zone.proofs.PlaceLaws.{at_places_of, places_count}
-use Rattle.dns_zone_tree.specs.Kinds.{places_in}
+use Rattle.dns_zone_tree.specs.Kinds.{kind_places, places_in, places_of}
 use Rattle.dns_zone_tree.specs.Regions.{Within, asked_region}
 use Rattle.dns_zone_tree.specs.Walks.{IsNode, ReachesNode, ReachesNone}
+use Rattle.dns_zone_tree.specs.declared.kinds.Kinds.{Kinds}
+use Rattle.dns_zone_tree.specs.declared.kinds.TypedPlace.{TypedPlace}
+use Rattle.dns_zone_tree.proofs.KindLaws.{places_ahead, places_next}
 use Rattle.dns_zone_tree.specs.Wildcards.{are_some, given_as, had_records, is_covered, wildcard}
 use Rattle.dns_name_server.specs.NameServerReplies.{behind_alias, by_alias, by_dname, by_region, by_target, found_or_denied, gone_by, gone_to, is_answered, made_alias, reply_from, too_long}
 use Rattle.dns_name_server.specs.Steps.{WireReply, are_any, behind, followed_alias, head_of, own_reply, wired}
@@ -46,13 +49,16 @@ answers_alone old rs =
 
 -- ---- places
 
-pub head_found : (rs : List Record) (is : List ℕ) (i : ℕ) (r : Record) → i < length is → Some r ≡ slice_get rs (get_or is i 0) → Some r ≡ head_of (at_places rs (drop i is))
-head_found rs is i r h e =
-    sym (ap (λ (x : List ℕ). head_of (at_places rs x)) (drop_more is i 0 h) ∙ ap (λ (o : Option Record). head_of (cons_option o (at_places rs (drop (i + 1) is)))) (sym e))
+module _ (rs : List Record) (t : ℕ) (ks : List TypedPlace) (i : ℕ) (d : TypedPlace) (h : i < length ks) where
+  -- the records from a place on
+  records_ahead : at_places rs (places_of t (drop i ks)) ≡ at_places rs (places_of t (get_or ks i d ∷ [])) ++ at_places rs (places_of t (drop (i + 1) ks))
+  records_ahead = ap (at_places rs) (places_ahead t ks i d h) ∙ filter_map-append (slice_get rs) (places_of t (get_or ks i d ∷ [])) (places_of t (drop (i + 1) ks))
 
-pub head_passed : (rs : List Record) (is : List ℕ) (i : ℕ) → i < length is → None ≡ slice_get rs (get_or is i 0) → head_of (at_places rs (drop (i + 1) is)) ≡ head_of (at_places rs (drop i is))
-head_passed rs is i h e =
-    sym (ap (λ (x : List ℕ). head_of (at_places rs x)) (drop_more is i 0 h) ∙ ap (λ (o : Option Record). head_of (cons_option o (at_places rs (drop (i + 1) is)))) (sym e))
+  pub head_found : (r : Record) → at_places rs (places_of t (get_or ks i d ∷ [])) ≡ r ∷ [] → Some r ≡ head_of (at_places rs (places_of t (drop i ks)))
+  head_found r e = sym (ap head_of (records_ahead ∙ ap (λ (l : List Record). l ++ at_places rs (places_of t (drop (i + 1) ks))) e))
+
+  pub head_passed : at_places rs (places_of t (get_or ks i d ∷ [])) ≡ [] → head_of (at_places rs (places_of t (drop (i + 1) ks))) ≡ head_of (at_places rs (places_of t (drop i ks)))
+  head_passed e = sym (ap head_of (records_ahead ∙ ap (λ (l : List Record). l ++ at_places rs (places_of t (drop (i + 1) ks))) e))
 
 -- ---- aliases
 
@@ -132,10 +138,8 @@ module _ (z : ZoneState) (t : ℕ) (name : List (List ℕ)) (m : Kinds) (h : Rea
       let e : at_places z.records (kind_places u m) ≡ asked_records z name u = ap (at_places z.records) (h.kept u) ∙ at_places_of (is_asked name u) z.records in
       ap are_some e ∙ some_of (asked_records z name u) (omega (arith, l, places_count (is_asked name u) z.records, ap length (h.kept u)))
 
-  pub own_found : (is : List ℕ) → is ≡ kind_places t m → 0 < length is → authoritative (at_places z.records is) ≡ own_reply z (at_places z.records (kind_places t m))
-  own_found is e l =
-      ap (λ (x : List ℕ). authoritative (at_places z.records x)) e
-      ∙ sym (ap (λ (b : Bool). if b then authoritative (at_places z.records (kind_places t m)) else denied z 0) (own_some t (subst (λ (x : List ℕ). 0 < length x) e l)))
+  pub own_found : 0 < length (kind_places t m) → authoritative (at_places z.records (kind_places t m)) ≡ own_reply z (at_places z.records (kind_places t m))
+  own_found l = sym (ap (λ (b : Bool). if b then authoritative (at_places z.records (kind_places t m)) else denied z 0) (own_some t l))
 
   pub own_none : kind_places t m ≡ [] → denied z 0 ≡ own_reply z (at_places z.records (kind_places t m))
   own_none e = sym (ap (λ (x : List ℕ). own_reply z (at_places z.records x)) e)
@@ -251,20 +255,21 @@ given_join rs name xs ys =
     ap (λ (l : List Record). map record_of (map (given_as name) l)) (filter_map-append (slice_get rs) xs ys)
     ∙ (ap (map record_of) (map-append (given_as name) (at_places rs xs) (at_places rs ys)) ∙ map-append record_of (map (given_as name) (at_places rs xs)) (map (given_as name) (at_places rs ys)))
 
-pub give_one : (rs : List Record) (name : List (List ℕ)) (place : ℕ) (r copy : Record) (old new : List ResourceRecord) → Some r ≡ slice_get rs place → copy ≡ given_as name r → new ≡ old ++ record_of copy ∷ [] → new ≡ old ++ map record_of (map (given_as name) (at_places rs (place ∷ [])))
-give_one rs name place r copy old new e f g =
-    g ∙ (ap (λ (x : Record). old ++ record_of x ∷ []) f ∙ ap (λ (o : Option Record). old ++ map record_of (map (given_as name) (cons_option o []))) e)
+pub give_some : (rs : List Record) (name : List (List ℕ)) (is : List ℕ) (r copy : Record) (old new : List ResourceRecord) → at_places rs is ≡ r ∷ [] → copy ≡ given_as name r → new ≡ old ++ record_of copy ∷ [] → new ≡ old ++ map record_of (map (given_as name) (at_places rs is))
+give_some rs name is r copy old new e f g =
+    g ∙ (ap (λ (x : Record). old ++ record_of x ∷ []) f ∙ ap (λ (l : List Record). old ++ map record_of (map (given_as name) l)) (sym e))
 
-pub give_no : (rs : List Record) (name : List (List ℕ)) (place : ℕ) (old : List ResourceRecord) → None ≡ slice_get rs place → old ≡ old ++ map record_of (map (given_as name) (at_places rs (place ∷ [])))
-give_no rs name place old e = sym (append-nil old) ∙ ap (λ (o : Option Record). old ++ map record_of (map (given_as name) (cons_option o []))) e
+pub give_no : (rs : List Record) (name : List (List ℕ)) (is : List ℕ) (old : List ResourceRecord) → at_places rs is ≡ [] → old ≡ old ++ map record_of (map (given_as name) (at_places rs is))
+give_no rs name is old e = sym (append-nil old) ∙ ap (λ (l : List Record). old ++ map record_of (map (given_as name) l)) (sym e)
 
-pub give_next : (rs : List Record) (name : List (List ℕ)) (is : List ℕ) (i : ℕ) (old now new : List ResourceRecord) → i < length is → now ≡ old ++ map record_of (map (given_as name) (at_places rs (take i is))) → new ≡ now ++ map record_of (map (given_as name) (at_places rs (get_or is i 0 ∷ []))) →
-    new ≡ old ++ map record_of (map (given_as name) (at_places rs (take (i + 1) is)))
-give_next rs name is i old now new h e f =
+pub give_next : (rs : List Record) (name : List (List ℕ)) (t : ℕ) (ks : List TypedPlace) (i : ℕ) (d : TypedPlace) (old now new : List ResourceRecord) → i < length ks → now ≡ old ++ map record_of (map (given_as name) (at_places rs (places_of t (take i ks)))) →
+    new ≡ now ++ map record_of (map (given_as name) (at_places rs (places_of t (get_or ks i d ∷ [])))) → new ≡ old ++ map record_of (map (given_as name) (at_places rs (places_of t (take (i + 1) ks))))
+give_next rs name t ks i d old now new h e f =
+    let one = places_of t (get_or ks i d ∷ []) in
     f
-    ∙ (ap (λ (l : List ResourceRecord). l ++ given_at rs name (get_or is i 0 ∷ [])) e
-    ∙ (append_assoc old (given_at rs name (take i is)) (given_at rs name (get_or is i 0 ∷ []))
-    ∙ ap (λ (l : List ResourceRecord). old ++ l) (sym (ap (given_at rs name) (take_more is i 0 h) ∙ given_join rs name (take i is) (get_or is i 0 ∷ [])))))
+    ∙ (ap (λ (l : List ResourceRecord). l ++ given_at rs name one) e
+    ∙ (append_assoc old (given_at rs name (places_of t (take i ks))) (given_at rs name one)
+    ∙ ap (λ (l : List ResourceRecord). old ++ l) (sym (ap (given_at rs name) (places_next t ks i d h) ∙ given_join rs name (places_of t (take i ks)) one))))
 
 -- and as they are
 place_join : (rs : List Record) (xs ys : List ℕ) → map record_of (at_places rs (xs ++ ys)) ≡ map record_of (at_places rs xs) ++ map record_of (at_places rs ys)
@@ -282,6 +287,22 @@ add_next rs is i old now new h e f =
     ∙ (ap (λ (l : List ResourceRecord). l ++ map record_of (at_places rs (get_or is i 0 ∷ []))) e
     ∙ (append_assoc old (map record_of (at_places rs (take i is))) (map record_of (at_places rs (get_or is i 0 ∷ [])))
     ∙ ap (λ (l : List ResourceRecord). old ++ l) (sym (ap (λ (x : List ℕ). map record_of (at_places rs x)) (take_more is i 0 h) ∙ place_join rs (take i is) (get_or is i 0 ∷ [])))))
+
+-- those of a type
+pub add_some : (rs : List Record) (is : List ℕ) (r : Record) (old new : List ResourceRecord) → at_places rs is ≡ r ∷ [] → new ≡ old ++ record_of r ∷ [] → new ≡ old ++ map record_of (at_places rs is)
+add_some rs is r old new e g = g ∙ ap (λ (l : List Record). old ++ map record_of l) (sym e)
+
+pub add_none : (rs : List Record) (is : List ℕ) (old : List ResourceRecord) → at_places rs is ≡ [] → old ≡ old ++ map record_of (at_places rs is)
+add_none rs is old e = sym (append-nil old) ∙ ap (λ (l : List Record). old ++ map record_of l) (sym e)
+
+pub kinds_next : (rs : List Record) (t : ℕ) (ks : List TypedPlace) (i : ℕ) (d : TypedPlace) (old now new : List ResourceRecord) → i < length ks → now ≡ old ++ map record_of (at_places rs (places_of t (take i ks))) →
+    new ≡ now ++ map record_of (at_places rs (places_of t (get_or ks i d ∷ []))) → new ≡ old ++ map record_of (at_places rs (places_of t (take (i + 1) ks)))
+kinds_next rs t ks i d old now new h e f =
+    let one = places_of t (get_or ks i d ∷ []) in
+    f
+    ∙ (ap (λ (l : List ResourceRecord). l ++ map record_of (at_places rs one)) e
+    ∙ (append_assoc old (map record_of (at_places rs (places_of t (take i ks)))) (map record_of (at_places rs one))
+    ∙ ap (λ (l : List ResourceRecord). old ++ l) (sym (ap (λ (x : List ℕ). map record_of (at_places rs x)) (places_next t ks i d h) ∙ place_join rs (places_of t (take i ks)) one))))
 
 -- ---- chains
 

@@ -7,6 +7,7 @@ use Rattle.dns_zone.specs.Owned.{ZoneState}
 use Rattle.dns_zone.specs.Places.{at_places}
 use Rattle.dns_zone.specs.ZoneReply.{ZoneReply, authoritative, denied, follows, referral}
 use Rattle.dns_zone.specs.ZoneTurns.{zone_begun}
+use Rattle.dns_zone_tree.specs.Kinds.{kind_places}
 use Rattle.dns_zone_tree.specs.Wildcards.{are_some, given_as}
 use Rattle.dns_name_server.specs.NameServerReplies.{too_long}
 use Rattle.dns_name_server.specs.declared.step.End.{End}
@@ -56,9 +57,9 @@ owned_by (Some name) r = given_as name r
 
 -- the reply that is an end alone
 abbrev pub end_reply : ZoneState → End → ZoneReply
-end_reply z (Own is) = authoritative (at_places z.records is.now)
+end_reply z (Own m t) = authoritative (at_places z.records (kind_places t m.now))
 end_reply z Nothing = authoritative []
-end_reply z (Delegation is) = referral z (at_places z.records is.now)
+end_reply z (Delegation m) = referral z (at_places z.records (kind_places 2 m.now))
 end_reply z (Denied there) = denied z (if there then 0 else 3)
 end_reply z TooLong = too_long
 

@@ -6,13 +6,14 @@ ghost use Rattle.dns_base.specs.Records.{record_of};
 ghost use Rattle.dns_zone.specs.Owned.{AreLawful};
 ghost use Rattle.dns_zone.specs.Places.{at_places};
 ghost use Rattle.dns_zone.specs.ZoneReply.{authoritative, denied, referral};
+ghost use Rattle.dns_zone_tree.specs.Kinds.{kind_places, places_of};
 ghost use Rattle.dns_name_server.specs.Steps.{behind, end_reply, wire_message, wired};
 
-use crate::step::{End, record_at};
-use dns_base::{AdditionalBuilder, Message, PushError, Rcode, Record, WireRecords};
+use crate::step::End;
+use dns_base::{AdditionalBuilder, Message, PushError, Rcode, Record, Rtype, WireRecords};
 use dns_name::OutOfMemory;
 use dns_zone::begin_reply;
-use dns_zone_tree::ZoneTree;
+use dns_zone_tree::{Kinds, TypedPlace, ZoneTree, record_at};
 use std::alloc::Global;
 
 /// A reply to a query that has these records.
@@ -51,22 +52,6 @@ fn add_place(
     }
 }
 
-/// Adds the records at places, one after another.
-fn add_places(
-    alloc: Global,
-    records: &[Record],
-    places: &[usize],
-    into: &mut WireRecords,
-) -> Result<(), OutOfMemory>
-    requires { AreLawful records.now }
-    ensures { OnOk result (into.new ≡ into.old ++ map record_of (at_places records.now places.now)) }
-{
-    'each: for place in places {
-        add_place(alloc, records, *place, into)?;
-    }
-    Ok(())
-}
-
 /// The records at places.
 fn wire_places(
     alloc: Global,
@@ -77,8 +62,44 @@ fn wire_places(
     ensures { IfOk result (λ w. w ≡ map record_of (at_places records.now places.now)) }
 {
     let mut all = WireRecords::new(alloc);
-    add_places(alloc, records, places, &mut all)?;
+    'each: for place in places {
+        add_place(alloc, records, *place, &mut all)?;
+    }
     Ok(all)
+}
+
+/// Adds the record at a place, where it is of a type.
+fn add_kind(
+    alloc: Global,
+    records: &[Record],
+    kind: &TypedPlace,
+    rtype: u16,
+    into: &mut WireRecords,
+) -> Result<(), OutOfMemory>
+    requires { AreLawful records.now }
+    ensures { OnOk result (into.new ≡ into.old ++ map record_of (at_places records.now (places_of rtype (kind.now ∷ [])))) }
+{
+    match kind.record(records, rtype) {
+        Some(record) => into.push(alloc, record),
+        None => Ok(()),
+    }
+}
+
+/// Adds the records of a type at places, one after another.
+fn add_kinds(
+    alloc: Global,
+    records: &[Record],
+    kinds: &[TypedPlace],
+    rtype: u16,
+    into: &mut WireRecords,
+) -> Result<(), OutOfMemory>
+    requires { AreLawful records.now }
+    ensures { OnOk result (into.new ≡ into.old ++ map record_of (at_places records.now (places_of rtype kinds.now))) }
+{
+    'each: for kind in kinds {
+        add_kind(alloc, records, kind, rtype, into)?;
+    }
+    Ok(())
 }
 
 /// The answers that are given, and nothing more.
@@ -94,18 +115,25 @@ fn alone(
     built(alloc, query, (rcode, true), given, &none, &none)
 }
 
-/// The answers that are given, and a referral to the name servers at places.
+/// The answers that are given, and a referral to the name servers of a cut.
 fn referred(
     zone: &ZoneTree,
     alloc: Global,
     query: &Message,
     given: &WireRecords,
-    servers: &[usize],
+    cut: &Kinds,
 ) -> Result<AdditionalBuilder, PushError>
-    ensures { Builds (unlimited (wire_message query.now (behind given.now (wired (referral zone.now (at_places zone.now.records servers.now)))))) result }
+    ensures { Builds (unlimited (wire_message query.now (behind given.now (wired (referral zone.now (at_places zone.now.records (kind_places 2 cut.now))))))) result }
 {
-    let glue = zone.glue(alloc, servers)?;
-    let authority = wire_places(alloc, zone.records(), servers)?;
+    let glue = zone.glue(alloc, cut)?;
+    let mut authority = WireRecords::new(alloc);
+    add_kinds(
+        alloc,
+        zone.records(),
+        cut.as_slice(),
+        Rtype::NS.to_int(),
+        &mut authority,
+    )?;
     let additional = wire_places(alloc, zone.records(), glue.as_slice())?;
     let aa = !given.is_empty();
     built(
@@ -151,18 +179,19 @@ fn denied(
     )
 }
 
-/// The answers that are given, and records at places.
+/// The answers that are given, and the records of a type of a name.
 fn found(
     zone: &ZoneTree,
     alloc: Global,
     query: &Message,
     given: WireRecords,
-    places: &[usize],
+    kinds: &Kinds,
+    rtype: u16,
 ) -> Result<AdditionalBuilder, PushError>
-    ensures { Builds (unlimited (wire_message query.now (behind given (wired (authoritative (at_places zone.now.records places.now)))))) result }
+    ensures { Builds (unlimited (wire_message query.now (behind given (wired (authoritative (at_places zone.now.records (kind_places rtype kinds.now))))))) result }
 {
     let mut answers = given;
-    add_places(alloc, zone.records(), places, &mut answers)?;
+    add_kinds(alloc, zone.records(), kinds.as_slice(), rtype, &mut answers)?;
     alone(alloc, query, Rcode::NOERROR, &answers)
 }
 
@@ -177,9 +206,9 @@ pub(crate) fn composed(
     ensures { Builds (unlimited (wire_message query.now (behind given (wired (end_reply zone.now end.now))))) result }
 {
     match end {
-        End::Own(places) => found(zone, alloc, query, given, places),
+        End::Own(kinds, rtype) => found(zone, alloc, query, given, kinds, *rtype),
         End::Nothing => alone(alloc, query, Rcode::NOERROR, &given),
-        End::Delegation(servers) => referred(zone, alloc, query, &given, servers),
+        End::Delegation(cut) => referred(zone, alloc, query, &given, cut),
         End::Denied(there) => denied(zone, alloc, query, &given, *there),
         End::TooLong => alone(alloc, query, Rcode::YXDOMAIN, &given),
     }

@@ -1,13 +1,13 @@
 //! One name of a chain of aliases: what is given of it, and what it leads to.
 
 ghost use Rattle.std.specs.Prelude.{◌≡◌, ◌++◌, ◌∷◌, [], List, ℕ, map, Some, if◌then◌else◌, IfOk, IfSome, OnOk, IsTrue};
-ghost use Rattle.std.specs.List.{slice_get};
 ghost use Rattle.std.specs.Option.{option_copied};
 ghost use Rattle.dns_base.specs.Records.{IsLawful, record_of};
 ghost use Rattle.dns_route.specs.Routes.{ends_name};
 ghost use Rattle.dns_zone.specs.Owned.{AreLawful, ZoneState, target};
-ghost use Rattle.dns_zone.specs.Places.{at_places, kind_places};
+ghost use Rattle.dns_zone.specs.Places.{at_places};
 ghost use Rattle.dns_zone.specs.ZoneReply.{ZoneReply, authoritative, follows};
+ghost use Rattle.dns_zone_tree.specs.Kinds.{kind_places, places_of};
 ghost use Rattle.dns_zone_tree.specs.Regions.{asked_region};
 ghost use Rattle.dns_zone_tree.specs.Walks.{IsNode, ReachesNode, ReachesNone};
 ghost use Rattle.dns_zone_tree.specs.Wildcards.{given_as, wildcard};
@@ -17,18 +17,18 @@ ghost use Rattle.dns_name_server.specs.Steps.{StepsTo, behind, end_reply, follow
 use crate::names::front_of;
 use dns_base::{Name, NameRef, Record, RecordData, Rtype, WireRecords};
 use dns_name::OutOfMemory;
-use dns_zone_tree::{ANY, Kinds, Walk, ZoneTree, all_in, places_in, record_target};
+use dns_zone_tree::{ANY, Kinds, TypedPlace, Walk, ZoneTree, record_target};
 use std::alloc::Global;
 
 /// What a chain of aliases ends with. Places are those of the zone's records.
 #[derive(Drop)]
 pub(crate) enum End<'a> {
-    /// Records that the last name owns.
-    Own(&'a [usize]),
+    /// The records of a type that the last name owns.
+    Own(&'a Kinds, u16),
     /// Nothing more.
     Nothing,
     /// The name servers of a cut.
-    Delegation(&'a [usize]),
+    Delegation(&'a Kinds),
     /// No such records, of a name that exists or not.
     Denied(bool),
     /// A name that would be too long.
@@ -51,21 +51,14 @@ fn follows(rtype: u16) -> bool
     rtype != Rtype::CNAME.to_int() && rtype != ANY
 }
 
-/// The record at a place, where there is one.
-pub(crate) fn record_at(records: &[Record], place: usize) -> Option<&Record>
-    ensures { option_copied result ≡ slice_get records.now place }
-{
-    records.get(place)
-}
-
-/// The first record at places.
-fn first_at<'a>(records: &'a [Record], places: &[usize]) -> Option<&'a Record>
+/// The first record of a type at places.
+fn first_of<'a>(records: &'a [Record], kinds: &[TypedPlace], rtype: u16) -> Option<&'a Record>
     requires { AreLawful records.now }
-    ensures value { option_copied result ≡ head_of (at_places records.now places.now) }
+    ensures value { option_copied result ≡ head_of (at_places records.now (places_of rtype kinds.now)) }
     ensures lawful { IfSome result (λ r. IsLawful r.now.rdata) }
 {
-    'each: for place in places {
-        if let Some(record) = record_at(records, *place) {
+    'each: for kind in kinds {
+        if let Some(record) = kind.record(records, rtype) {
             return Some(record);
         }
     }
@@ -91,18 +84,19 @@ fn copied(
     }
 }
 
-/// Gives the record at a place as another name's, where there is one.
-fn give_place(
+/// Gives the record at a place as another name's, where it is of a type.
+fn give_one(
     alloc: Global,
     records: &[Record],
-    place: usize,
+    kind: &TypedPlace,
+    rtype: u16,
     name: &NameRef<'_>,
     given: &mut WireRecords,
 ) -> Result<(), OutOfMemory>
     requires { AreLawful records.now }
-    ensures { OnOk result (given.new ≡ given.old ++ map record_of (map (given_as name.now) (at_places records.now (place ∷ [])))) }
+    ensures { OnOk result (given.new ≡ given.old ++ map record_of (map (given_as name.now) (at_places records.now (places_of rtype (kind.now ∷ []))))) }
 {
-    match record_at(records, place) {
+    match kind.record(records, rtype) {
         Some(record) => {
             let copy = copied(alloc, record, Some(name))?;
             given.push(alloc, &copy)?;
@@ -112,19 +106,20 @@ fn give_place(
     }
 }
 
-/// Gives the records at places as another name's.
+/// Gives the records of a type at places as another name's.
 fn give(
     alloc: Global,
     records: &[Record],
-    places: &[usize],
+    kinds: &[TypedPlace],
+    rtype: u16,
     name: &NameRef<'_>,
     given: &mut WireRecords,
 ) -> Result<(), OutOfMemory>
     requires { AreLawful records.now }
-    ensures { OnOk result (given.new ≡ given.old ++ map record_of (map (given_as name.now) (at_places records.now places.now))) }
+    ensures { OnOk result (given.new ≡ given.old ++ map record_of (map (given_as name.now) (at_places records.now (places_of rtype kinds.now)))) }
 {
-    'each: for place in places {
-        give_place(alloc, records, *place, name, given)?;
+    'each: for kind in kinds {
+        give_one(alloc, records, kind, rtype, name, given)?;
     }
     Ok(())
 }
@@ -156,7 +151,7 @@ fn alias_in<'a>(zone: &'a ZoneTree, rtype: u16, kinds: &Kinds) -> Option<&'a Rec
     ensures lawful { IfSome result (λ r. IsLawful r.now.rdata) }
 {
     if follows(rtype) {
-        return first_at(zone.records(), all_in(kinds, Rtype::CNAME.to_int()));
+        return first_of(zone.records(), kinds.as_slice(), Rtype::CNAME.to_int());
     }
     None
 }
@@ -165,10 +160,10 @@ fn alias_in<'a>(zone: &'a ZoneTree, rtype: u16, kinds: &Kinds) -> Option<&'a Rec
 fn own_end<'a>(kinds: &'a Kinds, rtype: u16) -> End<'a>
     ensures { (z : ZoneState) (name : List (List ℕ)) → ReachesNode z rtype name kinds.now → end_reply z result ≡ own_reply z (at_places z.records (kind_places rtype kinds.now)) }
 {
-    match places_in(kinds, rtype) {
-        Some(found) => End::Own(found),
-        None => End::Denied(true),
+    if kinds.has(rtype) {
+        return End::Own(kinds, rtype);
     }
+    End::Denied(true)
 }
 
 /// What a name that exists leads to.
@@ -199,7 +194,7 @@ fn give_kind<'a>(
     ensures { IfOk result (λ e. behind given.new (wired (end_reply zone.now e)) ≡ behind given.old (wired (own_reply zone.now (map (given_as name.now) (at_places zone.now.records (kind_places rtype kinds.now)))))) }
 {
     let start = given.len();
-    give(alloc, zone.records(), all_in(kinds, rtype), name, given)?;
+    give(alloc, zone.records(), kinds.as_slice(), rtype, name, given)?;
     let end = given.len();
     if end == start {
         return Ok(End::Denied(true));
@@ -341,12 +336,12 @@ fn at_dname<'a>(
     alloc: Global,
     rtype: u16,
     name: &NameRef<'_>,
-    places: &[usize],
+    kinds: &Kinds,
     given: &mut WireRecords,
 ) -> Result<Step<'a>, OutOfMemory>
-    ensures { IfOk result (λ s. StepsTo zone.now given.old given.new s (λ go. by_dname go rtype name.now (at_places zone.now.records places.now))) }
+    ensures { IfOk result (λ s. StepsTo zone.now given.old given.new s (λ go. by_dname go rtype name.now (at_places zone.now.records (kind_places 39 kinds.now)))) }
 {
-    match first_at(zone.records(), places) {
+    match first_of(zone.records(), kinds.as_slice(), Rtype::DNAME.to_int()) {
         Some(dname) => give_dname(alloc, rtype, name, dname, given),
         None => Ok(Step::End(End::Nothing)),
     }
@@ -365,8 +360,8 @@ pub(crate) fn step_of<'a>(
 {
     let found = zone.walk(alloc, name, rtype)?;
     match found {
-        Walk::Cut(servers) => Ok(Step::End(End::Delegation(servers))),
-        Walk::Dname(places) => at_dname(zone, alloc, rtype, name, places, given),
+        Walk::Cut(kinds) => Ok(Step::End(End::Delegation(kinds))),
+        Walk::Dname(kinds) => at_dname(zone, alloc, rtype, name, kinds, given),
         Walk::Node(kinds) => at_node(zone, alloc, rtype, kinds, given),
         Walk::Missing(skipped) => at_missing(zone, alloc, rtype, name, skipped, given),
     }

@@ -10,11 +10,12 @@ use Rattle.dns_order.specs.Keys.{canonical_key}
 use Rattle.dns_route.specs.Routes.{ends_name}
 use Rattle.dns_zone.specs.Kept.{IsInZone}
 use Rattle.dns_zone.specs.Owned.{AreLawful, HasLawfulData, ZoneState, is_asked, is_of, is_owned}
-use Rattle.dns_zone.specs.Places.{Kinds, places}
+use Rattle.dns_zone.specs.Places.{places}
 use Rattle.dns_zone.specs.ZoneErrors.{has_other_class, is_misplaced, is_outside}
 use Rattle.dns_zone.proofs.PathLaws.{true_eq}
 use Rattle.dns_zone.proofs.PlaceLaws.{places_count}
 use Rattle.dns_zone_tree.specs.Kinds.{Names, kinds_under, places_in}
+use Rattle.dns_zone_tree.specs.declared.kinds.Kinds.{Kinds}
 use Rattle.dns_zone_tree.specs.Long.{is_long}
 use Rattle.dns_zone_tree.specs.Names.{KnowsNames}
 use Rattle.dns_zone_tree.specs.TreeErrors.{Makes, first_cause, has_wild_servers, is_alone, is_beside, is_crowded, miscounted, place_error, refused, soa_error, tree_error}

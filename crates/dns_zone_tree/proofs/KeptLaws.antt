@@ -4,8 +4,8 @@ use Rattle.std.specs.Prelude.{◌&&◌, ◌||◌, if◌then◌else◌, is_some, 
 use Rattle.std.specs.Cmp.Lexicographic.{bytes_decides, nat_list_eq_equiv}
 use Rattle.std.specs.Str.{bytes_eq}
 use Rattle.dns_name.specs.declared.error.OutOfMemory.{OutOfMemory}
-use Rattle.dns_zone.specs.Places.{Kinds, kind_places}
-use Rattle.dns_zone_tree.specs.Kinds.{Marks, Names, Puts, kinds_under, places_in, places_under}
+use Rattle.dns_zone_tree.specs.Kinds.{Marks, Names, Puts, kind_places, kinds_under, places_in, places_under}
+use Rattle.dns_zone_tree.specs.declared.kinds.Kinds.{Kinds}
 
 -- what follows where a call succeeds
 pub on_ok : {A B : Type 0} (r : Result ⊤ OutOfMemory) → OnOk r A → (A → B) → OnOk r B

@@ -1,3 +1,4 @@
+pub mod KindLaws
 pub mod KeptLaws
 pub mod NameLaws
 pub mod DownLaws

@@ -9,11 +9,12 @@ use Rattle.dns_message.specs.declared.record.Record.{Record}
 use Rattle.dns_route.specs.Routes.{ends_name}
 use Rattle.dns_zone.specs.Kept.{IsInZone}
 use Rattle.dns_zone.specs.Owned.{ZoneState, asked_records, is_asked, is_of}
-use Rattle.dns_zone.specs.Places.{Kinds, at_places, kind_places, places}
+use Rattle.dns_zone.specs.Places.{at_places, places}
 use Rattle.dns_zone.specs.ZoneReply.{exists, negative_soa}
 use Rattle.dns_zone.proofs.PathLaws.{first_true, same_length, second_true, true_le}
 use Rattle.dns_zone.proofs.PlaceLaws.{at_places_of, no_records, places_agree, places_count, places_none}
-use Rattle.dns_zone_tree.specs.Kinds.{places_in}
+use Rattle.dns_zone_tree.specs.Kinds.{kind_places, places_in}
+use Rattle.dns_zone_tree.specs.declared.kinds.Kinds.{Kinds}
 use Rattle.dns_zone_tree.specs.Regions.{Region, Within, BelowCut, BelowDname, asked_region, down, is_cut, region}
 use Rattle.dns_zone_tree.specs.Walks.{HasNoServers, HasServers, IsNode, ReachesNode, ReachesNone, may_cut}
 use Rattle.dns_zone_tree.specs.Wildcards.{are_some}
@@ -43,26 +44,26 @@ asked_none z name t is e h = none_of (asked_records z name t) (as_many z name t 
 
 -- ---- the way
 
--- down to the name behind so many labels, whose DNAME records have these places
-pub record IsOnWay (z : ZoneState) (name : List (List ℕ)) (left : ℕ) (dnames : List ℕ) : Type 0 where
+-- down to the name behind so many labels, whose records have these places
+pub record IsOnWay (z : ZoneState) (name : List (List ℕ)) (left : ℕ) (last : Kinds) : Type 0 where
   pub few : left + length z.apex ≤ length name
   pub region_ : region z (drop left name) ≡ Within
-  pub dnames_ : dnames ≡ places (is_asked (drop left name) 39) z.records
+  pub kept : (t : ℕ) → kind_places t last ≡ places (is_asked (drop left name) t) z.records
   pub there : exists z (drop left name) ≡ true
 
-pub way_first : (z : ZoneState) (name : List (List ℕ)) (left : ℕ) (dnames : List ℕ) (negative : Record) → AllByRecursion (IsInZone z.apex) z.records → map negative_soa (filter (is_of 6) z.records) ≡ negative ∷ [] → ends_name name z.apex ≡ true → left + length z.apex ≡ length name →
-    dnames ≡ places (is_asked z.apex 39) z.records → IsOnWay z name left dnames
-way_first z name left dnames negative within soa ends e d =
+pub way_first : (z : ZoneState) (name : List (List ℕ)) (left : ℕ) (top : Kinds) (negative : Record) → AllByRecursion (IsInZone z.apex) z.records → map negative_soa (filter (is_of 6) z.records) ≡ negative ∷ [] → ends_name name z.apex ≡ true → left + length z.apex ≡ length name →
+    ((t : ℕ) → kind_places t top ≡ places (is_asked z.apex t) z.records) → IsOnWay z name left top
+way_first z name left top negative within soa ends e d =
     let k : length name - length z.apex ≡ left = omega (arith, e) in
     let same : same_name (drop left name) z.apex ≡ true = ap (λ (i : ℕ). same_name (drop i name) z.apex) (sym k) ∙ second_true (nat_le (length z.apex) (length name)) (same_name (drop (length name - length z.apex) name) z.apex) ends in
     record {
       few = omega (arith, e);
       region_ = region_apex z within (drop left name) same;
-      dnames_ = d ∙ places_agree (is_asked z.apex 39) (is_asked (drop left name) 39) (λ r. sym (asked_same z (drop left name) z.apex same 39 r)) z.records 0;
+      kept = λ t. d t ∙ places_agree (is_asked z.apex t) (is_asked (drop left name) t) (λ r. sym (asked_same z (drop left name) z.apex same t r)) z.records 0;
       there = exists_same z (drop left name) z.apex same (apex_exists z negative within soa);
     }
 
-module _ (z : ZoneState) (within : AllByRecursion (IsInZone z.apex) z.records) (name : List (List ℕ)) (k : ℕ) (dnames : List ℕ) (w : IsOnWay z name (k + 1) dnames) where
+module _ (z : ZoneState) (within : AllByRecursion (IsInZone z.apex) z.records) (name : List (List ℕ)) (k : ℕ) (last : Kinds) (w : IsOnWay z name (k + 1) last) where
   abbrev label : List ℕ
   label = get_or name k []
 
@@ -74,22 +75,22 @@ module _ (z : ZoneState) (within : AllByRecursion (IsInZone z.apex) z.records) (
 
   -- ---- DNAME records above
 
-  dname_down : 0 < length dnames → (c : Bool) → down z c (label ∷ above) above (region z above) ≡ BelowDname (asked_records z above 39)
+  dname_down : 0 < length (kind_places 39 last) → (c : Bool) → down z c (label ∷ above) above (region z above) ≡ BelowDname (asked_records z above 39)
   dname_down h c =
       ap (down z c (label ∷ above) above) w.region_
-      ∙ ap (λ (b : Bool). if b then BelowDname (asked_records z above 39) else (if c && is_cut z (label ∷ above) then BelowCut (asked_records z (label ∷ above) 2) else Within)) (asked_some z above 39 dnames w.dnames_ h)
+      ∙ ap (λ (b : Bool). if b then BelowDname (asked_records z above 39) else (if c && is_cut z (label ∷ above) then BelowCut (asked_records z (label ∷ above) 2) else Within)) (asked_some z above 39 (kind_places 39 last) (w.kept 39) h)
 
-  pub way_dname : (t : ℕ) → 0 < length dnames → (asked_region z t name ≡ BelowDname (at_places z.records dnames)) × (0 < length (at_places z.records dnames))
+  pub way_dname : (t : ℕ) → 0 < length (kind_places 39 last) → (asked_region z t name ≡ BelowDname (at_places z.records (kind_places 39 last))) × (0 < length (kind_places 39 last))
   way_dname t h =
-      let a = asked_at z above 39 dnames w.dnames_ in
+      let a = asked_at z above 39 (kind_places 39 last) (w.kept 39) in
       let r = BelowDname (asked_records z above 39) in (
         asked_stays z label above r (λ c n p. refl) (dname_down h true) t k name next_label (λ _. dname_down h (not (nat_eq t 43))) ∙ ap BelowDname (sym a),
-        omega (arith, h, ap length a, as_many z above 39 dnames w.dnames_),
+        h,
       )
 
-  module _ (none : length dnames ≡ 0) where
+  module _ (none : kind_places 39 last ≡ []) where
     no_dname : asked_records z above 39 ≡ []
-    no_dname = asked_none z above 39 dnames w.dnames_ none
+    no_dname = asked_none z above 39 (kind_places 39 last) (w.kept 39) (ap length none)
 
     -- ---- a name that doesn't exist
 
@@ -113,23 +114,23 @@ module _ (z : ZoneState) (within : AllByRecursion (IsInZone z.apex) z.records) (
           let n : length (label ∷ above) ≡ length z.apex = same_length (label ∷ above) z.apex e in
           omega (arith, n, w.few, length-drop (k + 1) name))
 
-      cut_here : (ns : List ℕ) → ns ≡ kind_places 2 m → 0 < length ns → is_cut z (label ∷ above) ≡ true
-      cut_here ns e h = ap (λ (b : Bool). b && not (same_name (label ∷ above) z.apex)) (asked_some z (label ∷ above) 2 ns (e ∙ kept 2) h) ∙ ap not not_apex
+      cut_here : 0 < length (kind_places 2 m) → is_cut z (label ∷ above) ≡ true
+      cut_here h = ap (λ (b : Bool). b && not (same_name (label ∷ above) z.apex)) (asked_some z (label ∷ above) 2 (kind_places 2 m) (kept 2) h) ∙ ap not not_apex
 
-      cut_down : (ns : List ℕ) → ns ≡ kind_places 2 m → 0 < length ns → (c : Bool) → c ≡ true → down z c (label ∷ above) above (region z above) ≡ BelowCut (asked_records z (label ∷ above) 2)
-      cut_down ns e h c t =
+      cut_down : 0 < length (kind_places 2 m) → (c : Bool) → c ≡ true → down z c (label ∷ above) above (region z above) ≡ BelowCut (asked_records z (label ∷ above) 2)
+      cut_down h c t =
           ap (down z c (label ∷ above) above) w.region_
           ∙ (ap (λ (rs : List Record). if are_some rs then BelowDname rs else (if c && is_cut z (label ∷ above) then BelowCut (asked_records z (label ∷ above) 2) else Within)) no_dname
           ∙ (ap (λ (b : Bool). if b && is_cut z (label ∷ above) then BelowCut (asked_records z (label ∷ above) 2) else Within) t
-          ∙ ap (λ (b : Bool). if b then BelowCut (asked_records z (label ∷ above) 2) else Within) (cut_here ns e h)))
+          ∙ ap (λ (b : Bool). if b then BelowCut (asked_records z (label ∷ above) 2) else Within) (cut_here h)))
 
       own_may : (t i : ℕ) → i ≡ 0 → may_cut i t ≡ true → not (nat_eq t 43) ≡ true
       own_may t i e h = sym (ap (λ (j : ℕ). not (nat_eq j 0 && nat_eq t 43)) e) ∙ h
 
-      pub way_cut : (t : ℕ) (ns : List ℕ) → HasServers k t m ns → asked_region z t name ≡ BelowCut (at_places z.records ns)
-      way_cut t ns h =
-          asked_stays z label above (BelowCut (asked_records z (label ∷ above) 2)) (λ c n p. refl) (cut_down ns h.value h.some true refl) t k name next_label (λ e. cut_down ns h.value h.some (not (nat_eq t 43)) (own_may t k e h.may))
-          ∙ ap BelowCut (sym (asked_at z (label ∷ above) 2 ns (h.value ∙ kept 2)))
+      pub way_cut : (t : ℕ) → HasServers k t m → asked_region z t name ≡ BelowCut (at_places z.records (kind_places 2 m))
+      way_cut t h =
+          asked_stays z label above (BelowCut (asked_records z (label ∷ above) 2)) (λ c n p. refl) (cut_down h.some true refl) t k name next_label (λ e. cut_down h.some (not (nat_eq t 43)) (own_may t k e h.may))
+          ∙ ap BelowCut (sym (asked_at z (label ∷ above) 2 (kind_places 2 m) (kept 2)))
 
       uncut : kind_places 2 m ≡ [] → is_cut z (label ∷ above) ≡ false
       uncut e = ap (λ (rs : List Record). are_some rs && not (same_name (label ∷ above) z.apex)) (asked_none z (label ∷ above) 2 (kind_places 2 m) (kept 2) (ap length e))
@@ -139,11 +140,11 @@ module _ (z : ZoneState) (within : AllByRecursion (IsInZone z.apex) z.records) (
       uncut_by false h = refl
 
       -- with names below it
-      pub way_next : (t : ℕ) (ds : List ℕ) → HasNoServers k t m → nat_eq k 0 ≡ false → ds ≡ kind_places 39 m → IsOnWay z name k ds
-      way_next t ds h e d = record {
+      pub way_next : (t : ℕ) → HasNoServers k t m → nat_eq k 0 ≡ false → IsOnWay z name k m
+      way_next t h e = record {
         few = omega (arith, w.few);
         region_ = ap (region z) next_label ∙ down_within z within true (label ∷ above) above (region z above) w.region_ no_dname (uncut (h (ap (λ (b : Bool). not (b && nat_eq t 43)) e)));
-        dnames_ = d ∙ (kept 39 ∙ ap (λ (x : List (List ℕ)). places (is_asked x 39) z.records) (sym next_label));
+        kept = λ u. kept u ∙ ap (λ (x : List (List ℕ)). places (is_asked x u) z.records) (sym next_label);
         there = here;
       }
 
@@ -174,23 +175,18 @@ asked_of : (z : ZoneState) (t : ℕ) (name : List (List ℕ)) → region z name 
 asked_of z t [] h = refl
 asked_of z t (l ∷ ls) h = own_within z (not (nat_eq t 43)) (l ∷ ls) ls (region z ls) h
 
-pub way_apex : (z : ZoneState) (t : ℕ) (name : List (List ℕ)) (left : ℕ) (dnames : List ℕ) (m : Kinds) (o : Option Kinds) → left ≡ 0 → IsOnWay z name left dnames → IsNode z name o → o ≡ Some m → ReachesNode z t name m
-way_apex z t name left dnames m o e w n is =
+pub way_apex : (z : ZoneState) (t : ℕ) (name : List (List ℕ)) (left : ℕ) (last : Kinds) → left ≡ 0 → IsOnWay z name left last → ReachesNode z t name last
+way_apex z t name left last e w =
     let d : drop left name ≡ name = ap (λ (i : ℕ). drop i name) e in
     record {
       region = asked_of z t name (ap (region z) (sym d) ∙ w.region_);
       exists_ = ap (exists z) (sym d) ∙ w.there;
-      kept = λ u. ap (λ (x : Option Kinds). places_in u x) (sym is) ∙ n.kept u;
+      kept = λ u. w.kept u ∙ ap (λ (x : List (List ℕ)). places (is_asked x u) z.records) d;
     }
 
-pub way_none : (z : ZoneState) (name : List (List ℕ)) (left : ℕ) (dnames : List ℕ) (o : Option Kinds) → left ≡ 0 → IsOnWay z name left dnames → IsNode z name o → o ≡ None → ⊥
-way_none z name left dnames o e w n is =
-    let d : drop left name ≡ name = ap (λ (i : ℕ). drop i name) e in
-    true_false (sym w.there ∙ (ap (exists z) d ∙ (sym n.there ∙ ap is_some is)))
-
 -- before a label is passed
-pub onward : (z : ZoneState) (name : List (List ℕ)) (left : ℕ) (dnames : List ℕ) → 0 < left → IsOnWay z name left dnames → IsOnWay z name (left - 1 + 1) dnames
-onward z name left dnames h w = subst (λ (n : ℕ). IsOnWay z name n dnames) (one_less left h) w
+pub onward : (z : ZoneState) (name : List (List ℕ)) (left : ℕ) (last : Kinds) → 0 < left → IsOnWay z name left last → IsOnWay z name (left - 1 + 1) last
+onward z name left last h w = subst (λ (n : ℕ). IsOnWay z name n last) (one_less left h) w
   where
     one_less : (n : ℕ) → 0 < n → n ≡ n - 1 + 1
     one_less n h = omega (arith, h)

@@ -1,13 +1,27 @@
--- Places of records, by the key of the owner and by the type.
-use Rattle.std.specs.Prelude.{ℕ, ◌≡◌, Bool, ◌||◌, ◌&&◌, List, [], ◌∷◌, ◌++◌, if◌then◌else◌, nat_eq, is_some, Option, Some, None}
+-- Places of records: those of one name with the types of the records, and those of a list by the keys of the owners.
+use Rattle.std.specs.Prelude.{ℕ, ◌≡◌, Bool, ◌||◌, ◌&&◌, List, [], ◌∷◌, ◌++◌, map, if◌then◌else◌, nat_eq, is_some, Option, Some, None}
+use Rattle.std.specs.List.{filter}
 use Rattle.std.specs.Ordering.{nat_cmp}
 use Rattle.std.specs.Cmp.Lexicographic.{slice_cmp}
 use Rattle.std.specs.Str.{bytes_eq}
 use Rattle.std.specs.BTreeMap.{BTreeMap, get_by}
 use Rattle.std.specs.declared.vec.Vec.{Vec}
 use Rattle.std.specs.declared.alloc.Global.{Global}
-use Rattle.dns_zone.specs.Places.{Kinds, kind_places}
+use Rattle.dns_zone_tree.specs.declared.kinds.Kinds.{Kinds}
+use Rattle.dns_zone_tree.specs.declared.kinds.TypedPlace.{TypedPlace}
 
+-- whether a place is that of a record of a type: type 255 asks for any (RFC 1035, section 3.2.3)
+abbrev pub is_kind : ℕ → TypedPlace → Bool
+is_kind t k = nat_eq t 255 || nat_eq k.rtype t
+
+-- the places of a type, in order
+abbrev pub places_of : ℕ → List TypedPlace → List ℕ
+places_of t ks = map (λ (k : TypedPlace). k.place) (filter (is_kind t) ks)
+
+abbrev pub kind_places : ℕ → Kinds → List ℕ
+kind_places t m = places_of t m.places.items
+
+-- places by the octets of keys
 abbrev pub Names : Type 0
 Names = BTreeMap (Vec ℕ Global) Kinds
 

@@ -10,8 +10,9 @@ use Rattle.dns_zone.specs.Kept.{IsInZone}
 use Rattle.dns_zone.specs.Owned.{AreLawful, is_asked, is_of}
 use Rattle.dns_zone.specs.Places.{places}
 use Rattle.dns_zone.specs.ZoneReply.{negative_soa}
-use Rattle.dns_zone_tree.specs.Kinds.{Names, kinds_under, places_under}
+use Rattle.dns_zone_tree.specs.Kinds.{Names, kind_places, kinds_under, places_under}
 use Rattle.dns_zone_tree.specs.Long.{is_long}
+use Rattle.dns_zone_tree.specs.declared.kinds.Kinds.{Kinds}
 
 -- the places of all records, and a node for each owner and each name above one
 pub record KnowsNames (n : Names) (rs : List Record) : Type 0 where
@@ -28,12 +29,11 @@ pub record MarksAbove (old : Names) (name : List (List ℕ)) (new : Names) : Typ
   pub kept : (p : List ℕ) (t : ℕ) → places_under new p t ≡ places_under old p t
   pub there : (q : List (List ℕ)) → is_some (kinds_under new (canonical_key q)) ≡ (ends_some (parent_of name) q || is_some (kinds_under old (canonical_key q)))
 
--- records within an apex that aren't long, their index, the places of the DNAME records of the apex, and the SOA record of negative
--- answers
-pub record IsTree (apex : List (List ℕ)) (rs : List Record) (n : Names) (dnames : List ℕ) (negative : Record) : Type 0 where
+-- records within an apex that aren't long, their index, the places of the records of the apex, and the SOA record of negative answers
+pub record IsTree (apex : List (List ℕ)) (rs : List Record) (n : Names) (top : Kinds) (negative : Record) : Type 0 where
   pub lawful : AreLawful rs
   pub within : AllByRecursion (IsInZone apex) rs
   pub short : position is_long rs ≡ None
   pub known : KnowsNames n rs
-  pub dnames_ : dnames ≡ places (is_asked apex 39) rs
+  pub top_ : (t : ℕ) → kind_places t top ≡ places (is_asked apex t) rs
   pub soa : map negative_soa (filter (is_of 6) rs) ≡ negative ∷ []

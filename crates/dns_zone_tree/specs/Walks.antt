@@ -1,11 +1,12 @@
 -- What is found of a name on the way down from the apex.
 use Rattle.std.specs.Prelude.{ℕ, ◌≡◌, ◌<◌, Bool, true, false, ◌&&◌, not, nat_eq, List, [], drop, length, is_some, Option}
 use Rattle.dns_zone.specs.Owned.{ZoneState, is_asked}
-use Rattle.dns_zone.specs.Places.{Kinds, at_places, kind_places, places}
+use Rattle.dns_zone.specs.Places.{at_places, places}
 use Rattle.dns_zone.specs.ZoneReply.{exists}
-use Rattle.dns_zone_tree.specs.Kinds.{places_in}
+use Rattle.dns_zone_tree.specs.Kinds.{kind_places, places_in}
 use Rattle.dns_zone_tree.specs.Regions.{Region, Within, BelowCut, BelowDname, asked_region}
 use Rattle.dns_zone_tree.specs.Wildcards.{encloser}
+use Rattle.dns_zone_tree.specs.declared.kinds.Kinds.{Kinds}
 use Rattle.dns_zone_tree.specs.declared.walk.Walk.{Walk}
 use Rattle.dns_zone_tree.specs.declared.walk.Walk.TheVariants.{Cut, Dname, Node, Missing}
 
@@ -18,11 +19,10 @@ pub record IsNode (z : ZoneState) (name : List (List ℕ)) (o : Option Kinds) : 
 abbrev pub may_cut : ℕ → ℕ → Bool
 may_cut left t = not (nat_eq left 0 && nat_eq t 43)
 
--- the NS records of a name that may be a cut, of which there are some, or none
-pub record HasServers (left t : ℕ) (m : Kinds) (is : List ℕ) : Type 0 where
+-- a name that may be a cut has NS records, or none
+pub record HasServers (left t : ℕ) (m : Kinds) : Type 0 where
   pub may : may_cut left t ≡ true
-  pub value : is ≡ kind_places 2 m
-  pub some : 0 < length is
+  pub some : 0 < length (kind_places 2 m)
 
 abbrev pub HasNoServers : ℕ → ℕ → Kinds → Type 0
 HasNoServers left t m = (may_cut left t ≡ true) → kind_places 2 m ≡ []
@@ -41,7 +41,7 @@ pub record ReachesNone (z : ZoneState) (t : ℕ) (name : List (List ℕ)) (skipp
 
 -- what a walk to a name ends at, where a type is asked for
 abbrev pub EndsAt : ZoneState → ℕ → List (List ℕ) → Walk → Type 0
-EndsAt z t name (Cut is) = asked_region z t name ≡ BelowCut (at_places z.records is.now)
-EndsAt z t name (Dname is) = (asked_region z t name ≡ BelowDname (at_places z.records is.now)) × (0 < length (at_places z.records is.now))
+EndsAt z t name (Cut m) = asked_region z t name ≡ BelowCut (at_places z.records (kind_places 2 m.now))
+EndsAt z t name (Dname m) = (asked_region z t name ≡ BelowDname (at_places z.records (kind_places 39 m.now))) × (0 < length (kind_places 39 m.now))
 EndsAt z t name (Node m) = ReachesNode z t name m.now
 EndsAt z t name (Missing n) = ReachesNone z t name n

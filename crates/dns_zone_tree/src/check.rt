@@ -5,13 +5,13 @@ ghost use Rattle.std.specs.List.{filter, position};
 ghost use Rattle.dns_base.specs.Records.{IsLawful};
 ghost use Rattle.dns_message.specs.declared.record.Record.{Record};
 ghost use Rattle.dns_zone.specs.Owned.{AreLawful, ZoneState, is_of};
-ghost use Rattle.dns_zone.specs.Places.{kind_places};
 ghost use Rattle.dns_zone.specs.ZoneErrors.{is_outside};
+ghost use Rattle.dns_zone_tree.specs.Kinds.{kind_places};
 ghost use Rattle.dns_zone_tree.specs.Names.{KnowsNames};
 ghost use Rattle.dns_zone_tree.specs.TreeErrors.{Makes, has_fault, has_wild_servers, is_crowded, is_wild, place_error, refused, soa_error, tree_error};
 
 use crate::error::TreeError;
-use crate::kinds::{ANY, Kinds, all_in};
+use crate::kinds::{ANY, Kinds};
 use crate::listing::names_of;
 use crate::names::{Names, kinds_at};
 use dns_base::{Class, ComposeRecord, Record, Rtype};
@@ -150,9 +150,9 @@ fn check_soa(apex: &Name, records: &[Record]) -> Result<(), TreeError>
 fn has_others(kinds: &Kinds) -> bool
     ensures { result ≡ nat_lt 1 (length (kind_places 255 kinds.now) - length (kind_places 46 kinds.now) - length (kind_places 47 kinds.now)) }
 {
-    let signatures = all_in(kinds, Rtype::RRSIG.to_int()).len();
-    let denials = all_in(kinds, Rtype::NSEC.to_int()).len();
-    let all = all_in(kinds, ANY).len();
+    let signatures = kinds.count(Rtype::RRSIG.to_int());
+    let denials = kinds.count(Rtype::NSEC.to_int());
+    let all = kinds.count(ANY);
     all.saturating_sub(signatures).saturating_sub(denials) > 1
 }
 

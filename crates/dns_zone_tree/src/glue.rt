@@ -5,24 +5,37 @@ ghost use Rattle.std.specs.Ordering.{nat_cmp};
 ghost use Rattle.std.specs.BTreeSet.{IsOrdered, contains};
 ghost use Rattle.std.specs.List.{list_any, slice_get};
 ghost use Rattle.std.specs.Option.{option_copied};
-ghost use Rattle.dns_zone.specs.Cuts.{glue, is_address_of, is_glue};
-ghost use Rattle.dns_zone.specs.Found.{target_of};
+ghost use Rattle.dns_zone.specs.Cuts.{glue, is_address_at, is_address_of, is_glue};
 ghost use Rattle.dns_zone.specs.Owned.{target};
-ghost use Rattle.dns_zone.specs.Places.{at_places, kind_places, passes};
+ghost use Rattle.dns_zone.specs.Places.{at_places, passes};
+ghost use Rattle.dns_zone_tree.specs.Kinds.{kind_places, places_of};
 
-use crate::kinds::{Kinds, all_in};
+use crate::kinds::{Kinds, TypedPlace};
 use crate::zone_tree::ZoneTree;
 use dns_base::{Name, Record, RecordData, Rtype};
 use dns_name::OutOfMemory;
 use std::alloc::Global;
 use std::collections::BTreeSet;
 
-/// Adds places to a set.
-fn add_all(set: &mut BTreeSet<usize>, places: &[usize]) -> Result<(), OutOfMemory>
-    ensures { OnOk result ((i : ℕ) → contains nat_cmp set.new i ≡ (contains nat_cmp set.old i || list_any (nat_eq i) places.now)) }
+/// Adds a place to a set, where it is of a type.
+fn add_kind(set: &mut BTreeSet<usize>, kind: &TypedPlace, rtype: u16) -> Result<(), OutOfMemory>
+    ensures { OnOk result ((i : ℕ) → contains nat_cmp set.new i ≡ (contains nat_cmp set.old i || list_any (nat_eq i) (places_of rtype (kind.now ∷ [])))) }
 {
-    'each: for place in places {
-        set.insert(*place)?;
+    match kind.of_type(rtype) {
+        Some(place) => {
+            set.insert(place)?;
+            Ok(())
+        }
+        None => Ok(()),
+    }
+}
+
+/// Adds the places of a type to a set.
+fn add_all(set: &mut BTreeSet<usize>, kinds: &[TypedPlace], rtype: u16) -> Result<(), OutOfMemory>
+    ensures { OnOk result ((i : ℕ) → contains nat_cmp set.new i ≡ (contains nat_cmp set.old i || list_any (nat_eq i) (places_of rtype kinds.now))) }
+{
+    'each: for kind in kinds {
+        add_kind(set, kind, rtype)?;
     }
     Ok(())
 }
@@ -31,8 +44,8 @@ fn add_all(set: &mut BTreeSet<usize>, places: &[usize]) -> Result<(), OutOfMemor
 fn add_addresses(set: &mut BTreeSet<usize>, kinds: &Kinds) -> Result<(), OutOfMemory>
     ensures { OnOk result ((i : ℕ) → contains nat_cmp set.new i ≡ ((contains nat_cmp set.old i || list_any (nat_eq i) (kind_places 1 kinds.now)) || list_any (nat_eq i) (kind_places 28 kinds.now))) }
 {
-    add_all(set, all_in(kinds, Rtype::A.to_int()))?;
-    add_all(set, all_in(kinds, Rtype::AAAA.to_int()))
+    add_all(set, kinds.as_slice(), Rtype::A.to_int())?;
+    add_all(set, kinds.as_slice(), Rtype::AAAA.to_int())
 }
 
 /// The places of a set, in order.
@@ -58,16 +71,6 @@ pub fn record_target(resource: &Record) -> Option<&Name>
 }
 
 impl ZoneTree {
-    /// The name that the data of the record at a place is, where it is one.
-    fn target(&self, place: usize) -> Option<&Name>
-        ensures { option_copied result ≡ target_of (slice_get self.now.records place) }
-    {
-        match self.records.get(place) {
-            Some(record) => record_target(record),
-            None => None,
-        }
-    }
-
     /// Adds the places of a host's addresses.
     fn add_host(
         &self,
@@ -84,37 +87,52 @@ impl ZoneTree {
         }
     }
 
-    /// Adds the places of the addresses of the host that the record at a place names.
-    fn add_server(
+    /// Adds the places of the addresses of the host that a record names.
+    fn add_target(
         &self,
         alloc: Global,
-        place: usize,
+        server: &Record,
         addresses: &mut BTreeSet<usize>,
     ) -> Result<(), OutOfMemory>
-        ensures { OnOk result ((i : ℕ) → contains nat_cmp addresses.new i ≡ (contains nat_cmp addresses.old i || passes (is_glue (at_places self.now.records (place ∷ []))) (slice_get self.now.records i))) }
+        ensures { OnOk result ((i : ℕ) → contains nat_cmp addresses.new i ≡ (contains nat_cmp addresses.old i || passes (is_address_at (target server.now.rdata)) (slice_get self.now.records i))) }
     {
-        match self.target(place) {
+        match record_target(server) {
             Some(host) => self.add_host(alloc, host, addresses),
             None => Ok(()),
         }
     }
 
-    /// The places of the addresses of the hosts that the records at places name, as a set.
-    fn addresses(&self, alloc: Global, servers: &[usize]) -> Result<BTreeSet<usize>, OutOfMemory>
-        ensures { IfOk result (λ s. (i : ℕ) → contains nat_cmp s i ≡ passes (is_glue (at_places self.now.records servers.now)) (slice_get self.now.records i)) }
+    /// Adds the places of the addresses of the host that the record at a place names, where it is an NS record.
+    fn add_server(
+        &self,
+        alloc: Global,
+        kind: &TypedPlace,
+        addresses: &mut BTreeSet<usize>,
+    ) -> Result<(), OutOfMemory>
+        ensures { OnOk result ((i : ℕ) → contains nat_cmp addresses.new i ≡ (contains nat_cmp addresses.old i || passes (is_glue (at_places self.now.records (places_of 2 (kind.now ∷ [])))) (slice_get self.now.records i))) }
+    {
+        match kind.record(self.records.as_slice(), Rtype::NS.to_int()) {
+            Some(server) => self.add_target(alloc, server, addresses),
+            None => Ok(()),
+        }
+    }
+
+    /// The places of the addresses of the hosts that the NS records at places name, as a set.
+    fn addresses(&self, alloc: Global, kinds: &[TypedPlace]) -> Result<BTreeSet<usize>, OutOfMemory>
+        ensures { IfOk result (λ s. (i : ℕ) → contains nat_cmp s i ≡ passes (is_glue (at_places self.now.records (places_of 2 kinds.now))) (slice_get self.now.records i)) }
     {
         let mut addresses = BTreeSet::new(alloc);
-        'each: for place in servers {
-            self.add_server(alloc, *place, &mut addresses)?;
+        'each: for kind in kinds {
+            self.add_server(alloc, kind, &mut addresses)?;
         }
         Ok(addresses)
     }
 
-    /// The places of the addresses of the hosts that the records at places name, in order.
-    pub fn glue(&self, alloc: Global, servers: &[usize]) -> Result<Vec<usize>, OutOfMemory>
-        ensures { IfOk result (λ v. at_places self.now.records v.items ≡ glue self.now (at_places self.now.records servers.now)) }
+    /// The places of the addresses of the hosts that the NS records of a name name, in order.
+    pub fn glue(&self, alloc: Global, cut: &Kinds) -> Result<Vec<usize>, OutOfMemory>
+        ensures { IfOk result (λ v. at_places self.now.records v.items ≡ glue self.now (at_places self.now.records (kind_places 2 cut.now))) }
     {
-        let addresses = self.addresses(alloc, servers)?;
+        let addresses = self.addresses(alloc, cut.as_slice())?;
         in_order(alloc, &addresses)
     }
 }

@@ -1,107 +1,142 @@
-//! Places by types.
+//! Places of the records of one name, with their types.
 
-ghost use Rattle.std.specs.Prelude.{◌≡◌, ◌<◌, ◌++◌, ◌∷◌, [], ℕ, length, nat_eq, if◌then◌else◌, ◌||◌, IsSome, IfOk, OnOk, MatchOption, None};
-ghost use Rattle.std.specs.Ordering.{nat_cmp};
-ghost use Rattle.std.specs.BTreeMap.{get};
-ghost use Rattle.dns_zone.specs.Places.{kind_places};
+ghost use Rattle.std.specs.Prelude.{◌≡◌, ◌<◌, ◌++◌, ◌∷◌, [], ℕ, length, nat_eq, if◌then◌else◌, ◌||◌, IfOk, IfSome, OnOk, MatchBool, MatchOption};
+ghost use Rattle.std.specs.List.{count_by, list_any, slice_get};
+ghost use Rattle.std.specs.Option.{option_copied};
+ghost use Rattle.dns_base.specs.Records.{IsLawful};
+ghost use Rattle.dns_zone.specs.Owned.{AreLawful};
+ghost use Rattle.dns_zone.specs.Places.{at_places};
+ghost use Rattle.dns_zone_tree.specs.Kinds.{is_kind, kind_places, places_of};
 
+use dns_base::Record;
 use dns_name::OutOfMemory;
+use smallvec::SmallVec;
 use std::alloc::Global;
-use std::collections::BTreeMap;
-
-/// Places by types: under 255 those of any type.
-pub type Kinds = BTreeMap<u16, Vec<usize>>;
 
 /// The type that asks for any (RFC 1035, section 3.2.3).
 pub const ANY: u16 = 255;
 
-/// Keeps a place behind those of a type.
-fn put_behind(kinds: &mut Kinds, rtype: u16, place: usize) -> Result<(), OutOfMemory>
-    requires { IsSome (get nat_cmp kinds.old rtype) }
-    ensures { OnOk result ((t : ℕ) → kind_places t kinds.new ≡ (if nat_eq rtype t then kind_places t kinds.old ++ place ∷ [] else kind_places t kinds.old)) }
-{
-    match kinds.get_mut(&rtype) {
-        Some(places) => {
-            places.push(place)?;
-            Ok(())
-        }
-        None => unreachable!(),
-    }
-}
-
-/// Keeps the first place of a type.
-fn put_first(kinds: &mut Kinds, alloc: Global, rtype: u16, place: usize) -> Result<(), OutOfMemory>
-    requires { get nat_cmp kinds.old rtype ≡ None }
-    ensures { OnOk result ((t : ℕ) → kind_places t kinds.new ≡ (if nat_eq rtype t then kind_places t kinds.old ++ place ∷ [] else kind_places t kinds.old)) }
-{
-    let mut places = Vec::new(alloc);
-    places.push(place)?;
-    kinds.insert(rtype, places)?;
-    Ok(())
-}
-
-/// Keeps a place under a number.
-fn put(kinds: &mut Kinds, alloc: Global, rtype: u16, place: usize) -> Result<(), OutOfMemory>
-    ensures { OnOk result ((t : ℕ) → kind_places t kinds.new ≡ (if nat_eq rtype t then kind_places t kinds.old ++ place ∷ [] else kind_places t kinds.old)) }
-{
-    if kinds.contains_key(&rtype) {
-        put_behind(kinds, rtype, place)
-    } else {
-        put_first(kinds, alloc, rtype, place)
-    }
-}
-
-/// Keeps a place of a type, which is also one of any type.
-pub(crate) fn put_kind(
-    kinds: &mut Kinds,
-    alloc: Global,
+/// The place of a record in a list, and the record's type.
+#[derive(Clone, Copy, Default)]
+pub struct TypedPlace {
     rtype: u16,
-    place: usize,
-) -> Result<(), OutOfMemory>
-    ensures { OnOk result ((t : ℕ) → kind_places t kinds.new ≡ (if nat_eq t 255 || nat_eq rtype t then kind_places t kinds.old ++ place ∷ [] else kind_places t kinds.old)) }
-{
-    put(kinds, alloc, ANY, place)?;
-    if rtype == ANY {
-        return Ok(());
-    }
-    put(kinds, alloc, rtype, place)
+    place: u32,
 }
 
-/// One place of a type, which is also one of any type.
-pub(crate) fn first_kinds(alloc: Global, rtype: u16, place: usize) -> Result<Kinds, OutOfMemory>
+/// The record at a place, where there is one.
+pub fn record_at(records: &[Record], place: usize) -> Option<&Record>
+    ensures { option_copied result ≡ slice_get records.now place }
+{
+    records.get(place)
+}
+
+impl TypedPlace {
+    /// Whether the record has a type; type 255 asks for any.
+    fn is_of(&self, rtype: u16) -> bool
+        ensures { result ≡ is_kind rtype self.now }
+    {
+        rtype == ANY || self.rtype == rtype
+    }
+
+    /// The place, where the record has a type.
+    pub(crate) fn of_type(&self, rtype: u16) -> Option<usize>
+        ensures { MatchOption result (places_of rtype (self.now ∷ []) ≡ []) (λ p. places_of rtype (self.now ∷ []) ≡ p ∷ []) }
+    {
+        if self.is_of(rtype) {
+            return Some(self.place as usize);
+        }
+        None
+    }
+
+    /// The record of a list at the place, where it has a type.
+    pub fn record<'a>(&self, records: &'a [Record], rtype: u16) -> Option<&'a Record>
+        ensures value { MatchOption result (at_places records.now (places_of rtype (self.now ∷ [])) ≡ []) (λ r. at_places records.now (places_of rtype (self.now ∷ [])) ≡ r.now ∷ []) }
+        ensures lawful { AreLawful records.now → IfSome result (λ r. IsLawful r.now.rdata) }
+    {
+        match self.of_type(rtype) {
+            Some(place) => record_at(records, place),
+            None => None,
+        }
+    }
+}
+
+/// The places of the records of a name, with their types, in the order of the list. Up to two of them lie in the value.
+#[derive(Drop)]
+pub struct Kinds {
+    places: SmallVec<TypedPlace, 2>,
+}
+
+impl Kinds {
+    /// No places.
+    pub(crate) fn new(alloc: Global) -> Kinds
+        ensures { (t : ℕ) → kind_places t result ≡ [] }
+    {
+        let places = SmallVec::new(alloc);
+        Kinds { places }
+    }
+
+    /// A copy.
+    pub(crate) fn try_clone(&self, alloc: Global) -> Result<Kinds, OutOfMemory>
+        ensures { IfOk result (λ m. (t : ℕ) → kind_places t m ≡ kind_places t self.now) }
+    {
+        let places = SmallVec::from_slice(alloc, self.as_slice())?;
+        Ok(Kinds { places })
+    }
+
+    /// Keeps a place of a type behind the others.
+    pub(crate) fn push(&mut self, rtype: u16, place: u32) -> Result<(), OutOfMemory>
+        ensures { OnOk result ((t : ℕ) → kind_places t self.new ≡ (if nat_eq t 255 || nat_eq rtype t then kind_places t self.old ++ place ∷ [] else kind_places t self.old)) }
+    {
+        self.places.push(TypedPlace { rtype, place })?;
+        Ok(())
+    }
+
+    /// All places, in order.
+    pub fn as_slice(&self) -> &[TypedPlace]
+        ensures { result.now ≡ self.now.places.items }
+    {
+        self.places.as_slice()
+    }
+
+    /// Whether there is a place of a type; of type 255 any.
+    pub fn has(&self, rtype: u16) -> bool
+        ensures { MatchBool result (0 < length (kind_places rtype self.now)) (kind_places rtype self.now ≡ []) }
+    {
+        has_kind(self.as_slice(), rtype)
+    }
+
+    /// How many places of a type there are.
+    pub(crate) fn count(&self, rtype: u16) -> usize
+        ensures { result ≡ length (kind_places rtype self.now) }
+    {
+        count_kinds(self.as_slice(), rtype)
+    }
+}
+
+/// One place of a type.
+pub(crate) fn first_kinds(alloc: Global, rtype: u16, place: u32) -> Result<Kinds, OutOfMemory>
     ensures { IfOk result (λ m. (t : ℕ) → kind_places t m ≡ (if nat_eq t 255 || nat_eq rtype t then place ∷ [] else [])) }
 {
-    let mut kinds = BTreeMap::new(alloc);
-    put_kind(&mut kinds, alloc, rtype, place)?;
+    let mut kinds = Kinds::new(alloc);
+    kinds.push(rtype, place)?;
     Ok(kinds)
 }
 
-/// The places of a type, where there are any; of type 255 all places.
-pub fn places_in(kinds: &Kinds, rtype: u16) -> Option<&[usize]>
-    ensures { MatchOption result (kind_places rtype kinds.now ≡ []) (λ s. (s.now ≡ kind_places rtype kinds.now) × (0 < length s.now)) }
+/// Whether one of some places is of a type.
+fn has_kind(kinds: &[TypedPlace], rtype: u16) -> bool
+    ensures { result ≡ list_any (is_kind rtype) kinds.now }
 {
-    match kinds.get(&rtype) {
-        Some(places) => filled(places.as_slice()),
-        None => None,
+    'each: for kind in kinds {
+        if kind.is_of(rtype) {
+            return true;
+        }
     }
+    false
 }
 
-/// The places of a type.
-pub fn all_in(kinds: &Kinds, rtype: u16) -> &[usize]
-    ensures { result.now ≡ kind_places rtype kinds.now }
+/// How many of some places are of a type.
+fn count_kinds(kinds: &[TypedPlace], rtype: u16) -> usize
+    ensures { result ≡ count_by (is_kind rtype) kinds.now }
 {
-    match places_in(kinds, rtype) {
-        Some(places) => places,
-        None => &[],
-    }
-}
-
-/// Places, where there are any.
-fn filled(places: &[usize]) -> Option<&[usize]>
-    ensures { MatchOption result (places.now ≡ []) (λ s. (s.now ≡ places.now) × (0 < length s.now)) }
-{
-    if places.is_empty() {
-        return None;
-    }
-    Some(places)
+    kinds.iter().filter(|kind| kind.is_of(rtype)).count()
 }

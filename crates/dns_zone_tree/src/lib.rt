@@ -6,7 +6,7 @@
 //!   refused.
 //! - `walk` goes from the apex to a name, label by label, and says what it ends at (`Walk`).
 //! - `wildcard` finds the wildcard below a name, and `glue` the addresses of name servers.
-//! - `Kinds` are the places of the records of one name, by type.
+//! - `Kinds` are the places of the records of one name, with their types (`TypedPlace`).
 //!
 //! `Zone` of dns_zone is a single service over such a list; a `ZoneTree` is what the reply of a name server is made
 //! from, in dns_name_server. A name that exists has a node in the tree even where it owns no record.
@@ -46,6 +46,6 @@ mod zone_tree;
 
 pub use error::TreeError;
 pub use glue::record_target;
-pub use kinds::{ANY, Kinds, all_in, places_in};
+pub use kinds::{ANY, Kinds, TypedPlace, record_at};
 pub use walk::Walk;
 pub use zone_tree::ZoneTree;

@@ -2,10 +2,10 @@
 
 ghost use Rattle.std.specs.Prelude.{◌≡◌, OnOk, IsSome};
 ghost use Rattle.std.specs.Option.{option_copied};
-ghost use Rattle.dns_zone_tree.specs.Kinds.{Marks, Puts, kinds_under, places_under};
+ghost use Rattle.dns_zone_tree.specs.Kinds.{Marks, Puts, kinds_under};
 ghost use Rattle.dns_zone_tree.specs.Names.{MarksAbove};
 
-use crate::kinds::{Kinds, all_in, first_kinds, put_kind};
+use crate::kinds::{Kinds, first_kinds};
 use dns_name::{NameRef, OutOfMemory};
 use dns_order::canonical_key;
 use std::alloc::Global;
@@ -21,8 +21,7 @@ pub(crate) fn mark(names: &mut Names, alloc: Global, key: Vec<u8>) -> Result<(),
     if names.contains_key(key.as_slice()) {
         return Ok(());
     }
-    let kinds = BTreeMap::new(alloc);
-    names.insert(key, kinds)?;
+    names.insert(key, Kinds::new(alloc))?;
     Ok(())
 }
 
@@ -33,29 +32,13 @@ pub(crate) fn kinds_at<'a>(names: &'a Names, key: &[u8]) -> Option<&'a Kinds>
     names.get(key)
 }
 
-/// The places of a type that are kept under a key.
-pub(crate) fn places_at<'a>(names: &'a Names, key: &[u8], rtype: u16) -> &'a [usize]
-    ensures { result.now ≡ places_under names.now key.now rtype }
-{
-    match kinds_at(names, key) {
-        Some(kinds) => all_in(kinds, rtype),
-        None => &[],
-    }
-}
-
 /// Keeps a place of a type under a key that is there.
-fn put_behind(
-    names: &mut Names,
-    alloc: Global,
-    key: &[u8],
-    rtype: u16,
-    place: usize,
-) -> Result<(), OutOfMemory>
+fn put_behind(names: &mut Names, key: &[u8], rtype: u16, place: u32) -> Result<(), OutOfMemory>
     requires { IsSome (kinds_under names.old key.now) }
     ensures { OnOk result (Puts names.old key.now rtype place names.new) }
 {
     match names.get_mut(key) {
-        Some(kinds) => put_kind(kinds, alloc, rtype, place),
+        Some(kinds) => kinds.push(rtype, place),
         None => unreachable!(),
     }
 }
@@ -66,13 +49,13 @@ pub(crate) fn put(
     alloc: Global,
     key: Vec<u8>,
     rtype: u16,
-    place: usize,
+    place: u32,
 ) -> Result<(), OutOfMemory>
     ensures { OnOk result (Puts names.old key.items rtype place names.new) }
 {
     let octets = key.as_slice();
     if names.contains_key(octets) {
-        return put_behind(names, alloc, octets, rtype, place);
+        return put_behind(names, octets, rtype, place);
     }
     let kinds = first_kinds(alloc, rtype, place)?;
     names.insert(key, kinds)?;

@@ -1,13 +1,13 @@
 //! The way down from the apex to a name, label by label.
 
-ghost use Rattle.std.specs.Prelude.{◌≡◌, ◌+◌, ◌∷◌, length, IfOk, IsTrue, MatchOption};
+ghost use Rattle.std.specs.Prelude.{◌≡◌, ◌+◌, ◌∷◌, length, IfOk, IsTrue, MatchBool};
 ghost use Rattle.std.specs.Option.{option_copied};
 ghost use Rattle.dns_order.specs.Keys.{canonical_key};
 ghost use Rattle.dns_route.specs.Routes.{ends_name};
 ghost use Rattle.dns_zone_tree.specs.Walks.{EndsAt, HasNoServers, HasServers, IsNode};
 ghost use Rattle.dns_zone_tree.specs.Wildcards.{star};
 
-use crate::kinds::{Kinds, all_in, places_in};
+use crate::kinds::Kinds;
 use crate::names::kinds_at;
 use crate::zone_tree::ZoneTree;
 use dns_base::Rtype;
@@ -18,10 +18,10 @@ use std::alloc::Global;
 /// What a walk from the apex to a name ends at. Places are those of the zone's records.
 #[derive(Drop)]
 pub enum Walk<'a> {
-    /// The NS records of a cut at or above the name.
-    Cut(&'a [usize]),
-    /// The DNAME records of a name above it.
-    Dname(&'a [usize]),
+    /// The places of the records of a cut at or above the name, of which some are NS records.
+    Cut(&'a Kinds),
+    /// The places of the records of a name above it, of which some are DNAME records.
+    Dname(&'a Kinds),
     /// The places of the records of the name, which exists.
     Node(&'a Kinds),
     /// How many labels are before the closest encloser of the name, which doesn't exist.
@@ -39,14 +39,14 @@ fn star_key(alloc: Global, above: &NameRef<'_>) -> Result<Vec<u8>, OutOfMemory>
     Ok(key)
 }
 
-/// The places of the NS records of a name that may be a cut: not where DS is asked for and it is the name itself.
-fn servers_in(kinds: &Kinds, left: usize, rtype: u16) -> Option<&[usize]>
-    ensures { MatchOption result (HasNoServers left rtype kinds.now) (λ s. HasServers left rtype kinds.now s.now) }
+/// Whether a name is a cut: it has NS records, and it isn't the name itself where DS is asked for.
+fn is_cut(kinds: &Kinds, left: usize, rtype: u16) -> bool
+    ensures { MatchBool result (HasServers left rtype kinds.now) (HasNoServers left rtype kinds.now) }
 {
     if left == 0 && rtype == Rtype::DS.to_int() {
-        return None;
+        return false;
     }
-    places_in(kinds, Rtype::NS.to_int())
+    kinds.has(Rtype::NS.to_int())
 }
 
 impl ZoneTree {
@@ -93,30 +93,26 @@ impl ZoneTree {
         ensures { IfOk result (EndsAt self.now rtype name.now) }
     {
         let mut left = self.levels(name);
-        let mut dnames = self.dnames.as_slice();
+        let mut last = &self.top;
         'down: while left > 0 {
-            if !dnames.is_empty() {
-                return Ok(Walk::Dname(dnames));
+            if last.has(Rtype::DNAME.to_int()) {
+                return Ok(Walk::Dname(last));
             }
             left -= 1;
             let found = self.node(alloc, &name.behind(left))?;
             match found {
                 Some(kinds) => {
-                    if let Some(servers) = servers_in(kinds, left, rtype) {
-                        return Ok(Walk::Cut(servers));
+                    if is_cut(kinds, left, rtype) {
+                        return Ok(Walk::Cut(kinds));
                     }
                     if left == 0 {
                         return Ok(Walk::Node(kinds));
                     }
-                    dnames = all_in(kinds, Rtype::DNAME.to_int());
+                    last = kinds;
                 }
                 None => return Ok(Walk::Missing(left + 1)),
             }
         }
-        let last = self.node(alloc, name)?;
-        match last {
-            Some(kinds) => Ok(Walk::Node(kinds)),
-            None => unreachable!(),
-        }
+        Ok(Walk::Node(last))
     }
 }

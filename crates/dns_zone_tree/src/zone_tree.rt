@@ -12,7 +12,8 @@ ghost use Rattle.dns_zone_tree.specs.TreeErrors.{Makes, tree_error};
 
 use crate::check::checked;
 use crate::error::TreeError;
-use crate::listing::{dnames_at, negative_of};
+use crate::kinds::Kinds;
+use crate::listing::{kinds_of, negative_of};
 use crate::names::Names;
 use dns_base::Record;
 use dns_name::{Name, OutOfMemory};
@@ -26,7 +27,7 @@ pub struct ZoneTree {
     pub(crate) apex: Name,
     pub(crate) records: Vec<Record>,
     pub(crate) names: Names,
-    pub(crate) dnames: Vec<usize>,
+    pub(crate) top: Kinds,
     pub(crate) negative: Record,
 }
 
@@ -38,7 +39,7 @@ impl Model for ZoneTree {
 
     ghost view = { λ z. record { apex = z.apex; records = z.records.items } };
 
-    ghost invariant = { λ z. IsTree z.apex z.records.items z.names z.dnames.items z.negative };
+    ghost invariant = { λ z. IsTree z.apex z.records.items z.names z.top z.negative };
 }
 
 /// The zone of records that were checked.
@@ -56,12 +57,12 @@ fn made(
     ensures { IfOk result (λ z. z ≡ record { apex = apex; records = records.items }) }
 {
     let negative = negative_of(alloc, records.as_slice())?;
-    let dnames = dnames_at(alloc, &names, &apex)?;
+    let top = kinds_of(alloc, &names, &apex)?;
     Ok(ZoneTree {
         apex,
         records,
         names,
-        dnames,
+        top,
         negative,
     })
 }

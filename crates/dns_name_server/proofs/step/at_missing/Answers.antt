@@ -1,10 +1,10 @@
 use Rattle.std.proofs.Common.{◌≡◌, ℕ, List, ◌∷◌, ap, sym, subst, ◌∙◌}
 use Rattle.std.specs.Prelude.{Option}
 use Rattle.std.specs.Option.{option_copied}
-use Rattle.dns_zone.specs.Places.{Kinds}
 use Rattle.dns_zone.specs.ZoneReply.{ZoneReply}
 use Rattle.dns_zone_tree.specs.Walks.{IsNode}
 use Rattle.dns_zone_tree.specs.Wildcards.{star, wildcard}
+use Rattle.dns_zone_tree.specs.declared.kinds.Kinds.{Kinds}
 use Rattle.dns_name_server.specs.Steps.{behind, wired}
 use Rattle.dns_name_server.proofs.StepLaws.{wild_nowhere}
 use Rattle.dns_name_server.proofs.step.at_missing.Goals as goal

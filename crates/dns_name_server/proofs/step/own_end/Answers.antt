@@ -1,8 +1,9 @@
+use Rattle.dns_zone_tree.proofs.KindLaws.{at_false, at_true}
 use Rattle.dns_name_server.proofs.StepLaws.{own_found, own_none}
 use Rattle.dns_name_server.proofs.step.own_end.Goals as goal
 
-pub returns-in-Some : goal.returns-in-Some
-returns-in-Some c = λ z name h. own_found z c.args.rtype name c.args.kinds.now h c.in-Some.found.now c.in-Some.ensures.0 c.in-Some.ensures.1
+pub returns-then-has : goal.returns-then-has
+returns-then-has c = λ z name h. own_found z c.args.rtype name c.args.kinds.now h (at_true _ _ c.has.result c.has.ensures c.if-has.true)
 
-pub returns-in-None : goal.returns-in-None
-returns-in-None c = λ z name h. own_none z c.args.rtype name c.args.kinds.now h c.in-None.ensures
+pub returns : goal.returns
+returns c = λ z name h. own_none z c.args.rtype name c.args.kinds.now h (at_false _ _ c.has.result c.has.ensures c.if-has.false)

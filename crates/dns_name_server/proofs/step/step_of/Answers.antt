@@ -1,6 +1,7 @@
 use Rattle.std.proofs.Common.{ap, sym, subst, ◌∙◌}
 use Rattle.dns_zone.specs.Places.{at_places}
 use Rattle.dns_zone_tree.proofs.KeptLaws.{if_ok}
+use Rattle.dns_zone_tree.specs.Kinds.{kind_places}
 use Rattle.dns_zone_tree.specs.Regions.{Region, asked_region}
 use Rattle.dns_zone_tree.specs.Walks.{EndsAt}
 use Rattle.dns_name_server.specs.NameServerReplies.{by_dname, by_region}
@@ -20,7 +21,7 @@ returns-in-Dname c =
     let t = c.args.rtype in
     let n = c.args.name.now in
     let e = subst (EndsAt z t n) c.in-Dname.is c.in_ok-found.ensures in
-    if_ok (λ (s : Step). StepsTo z c.args.given.now c.at_dname.new.given s (λ go. by_dname go t n (at_places z.records c.in-Dname.places.now)))
+    if_ok (λ (s : Step). StepsTo z c.args.given.now c.at_dname.new.given s (λ go. by_dname go t n (at_places z.records (kind_places 39 c.in-Dname.kinds.now))))
     (λ (s : Step). StepsTo z c.args.given.now c.at_dname.new.given s (λ go. by_region z go t n (asked_region z t n))) c.at_dname.result c.at_dname.ensures
     (λ s g go. g go ∙ ap (λ (r : Region). behind c.args.given.now (wired (by_region z go t n r))) (sym e.0))
 

@@ -9,5 +9,5 @@ pub returns : goal.returns
 returns c = λ rs k l.
     let r = c.args.resource.now in
     on_ok c.mark_above.result c.mark_above.ensures
-    (λ h. knows_more c.args.names.now c.put.new.names rs r c.in_ok-key.key.items c.to_int.result c.args.place k (c.in_ok-key.ensures ∙ ap canonical_key c.for_ref-owner.ensures.value) (c.to_int.ensures.value ∙ c.rtype.ensures) l c.in_ok-put.ensures c.mark_above.new.names
+    (λ h. knows_more c.args.names.now c.put.new.names rs r c.in_ok-key.key.items c.to_int.result c.in_ok-kept.kept k (c.in_ok-key.ensures ∙ ap canonical_key c.for_ref-owner.ensures.value) (c.to_int.ensures.value ∙ c.rtype.ensures) (c.in_ok-kept.ensures ∙ l) c.in_ok-put.ensures c.mark_above.new.names
     (subst (λ (n : List (List ℕ)). MarksAbove c.put.new.names n c.mark_above.new.names) c.for_ref-owner.ensures.value h))

@@ -1,8 +1,4 @@
 use Rattle.std.proofs.Common.{◌≡◌, ℕ, List, true, false, Some, is_some, ap, sym, ◌∙◌}
-use Rattle.std.specs.BTreeMap.{is_at}
-use Rattle.std.specs.Map.{lookup}
-use Rattle.std.specs.Ordering.{nat_cmp}
-use Rattle.dns_zone.specs.Places.{kept_places}
 use Rattle.dns_zone.proofs.KeepLaws.{put_under}
 use Rattle.dns_zone_tree.specs.Kinds.{kinds_under}
 use Rattle.dns_zone_tree.proofs.KeptLaws.{marks_kept, marks_of}
@@ -15,7 +11,6 @@ returns-then-contains_key c =
 
 pub returns : goal.returns
 returns c =
-    let w = c.new-kinds.result in
+    let w = c.new.result in
     let e : is_some (kinds_under c.args.names.now c.args.key.items) ≡ false = ap (λ (o : List ℕ). is_some (kinds_under c.args.names.now o)) (sym c.as_slice.ensures.value) ∙ (sym c.contains_key.ensures ∙ c.if-contains_key.false) in
-    marks_of c.args.names.now c.insert.new.self c.args.key.items w e (λ (u : ℕ). ap (λ es. kept_places (lookup (is_at (nat_cmp u)) es)) c.new-kinds.ensures.empty)
-    (put_under c.args.key.items c.args.names.now c.insert.new.self (Some w) c.in_ok-insert.ensures.updates)
+    marks_of c.args.names.now c.insert.new.self c.args.key.items w e c.new.ensures (put_under c.args.key.items c.args.names.now c.insert.new.self (Some w) c.in_ok-insert.ensures.updates)

@@ -14,6 +14,6 @@ invariant_of-result c = record {
   within = c.requires.within;
   short = c.requires.short;
   known = c.requires.known;
-  dnames_ = c.in_ok-dnames.ensures ∙ c.requires.known.kept c.args.apex 39;
+  top_ = λ t. c.in_ok-top.ensures t ∙ c.requires.known.kept c.args.apex t;
   soa = sym (ap (λ l. map negative_soa (filter (is_of 6) l)) c.as_slice.ensures.value) ∙ c.in_ok-negative.ensures;
 }
