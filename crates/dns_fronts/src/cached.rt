@@ -7,6 +7,7 @@ ghost use Rattle.dns_middleware.specs.WrappedStreams.{wrap_by};
 ghost use Rattle.dns_fronts.specs.Layered.{given};
 ghost use Rattle.dns_fronts.specs.Caching.{cache_given, cache_taken, cached_asks, cached_over, looked_up, young_item};
 ghost use Rattle.dns_fronts.specs.Passed.{taken_unless};
+ghost use Rattle.dns_fronts.specs.Required.{settings_for};
 
 use crate::layered::{LayeredFront, given_turn, own_of};
 use crate::single::{Answered, Unanswered};
@@ -76,15 +77,15 @@ impl CachedFront {
 impl Front for CachedFront {
     type Rule = WrapPost;
 
-    ghost over = { λ f i r k. cached_over f.front.settings f.cache i r k };
+    ghost over = { λ f i r k. cached_over (settings_for f.front r) f.cache i r k };
 
-    ghost hint = { λ f. hint_left f.front.settings };
+    ghost hint = { λ f r. hint_left (settings_for f.front r) r };
 
-    ghost asks = { λ f. cached_asks f.front.settings f.cache };
+    ghost asks = { λ f r. cached_asks (settings_for f.front r) f.cache r };
 
     ghost given = { given };
 
-    ghost after_take = { λ f r. record f { cache = cache_taken f.front.settings f.cache r } };
+    ghost after_take = { λ f r. record f { cache = cache_taken (settings_for f.front r) f.cache r } };
 
     ghost after_give = { λ f o secs r. record f { cache = cache_given f.cache o secs r } };
 

@@ -9,12 +9,15 @@ ghost use Rattle.dns_middleware.specs.WrappedStreams.{wrap_by};
 ghost use Rattle.dns_proxy.specs.Fronts.{IsTaken};
 ghost use Rattle.dns_fronts.specs.Layered.{asked_message, given, given_turn, item_in, layered, sendable};
 ghost use Rattle.dns_fronts.specs.Passed.{passed_to};
+ghost use Rattle.dns_fronts.specs.Required.{denying, settings_for};
 
+use crate::networks::{Network, is_in_any};
 use crate::sendable::sendable;
-use dns_base::Message;
+use dns_base::{Addrs, Message};
 use dns_decide::{Decision, decide};
 use dns_layers::{AskStream, NoSecondaries, rewrite_answer};
 use dns_middleware::WrapPost;
+use dns_name::IpAddr;
 use dns_proxy::{Front, Taken};
 use dns_route::{SendError, Turned, relay_answer, turn_item};
 use dns_service::{
@@ -22,31 +25,32 @@ use dns_service::{
 };
 use std::alloc::Global;
 
-/// The layers of some settings. A NOTIFY is answered NOTAUTH, since a proxy is a secondary of no zone. A request that is passed on
+/// The layers of some settings, and the networks whose clients need a good cookie over UDP. A NOTIFY is answered NOTAUTH, since a proxy is a secondary of no zone. A request that is passed on
 /// is sent on without its OPT record, or with one of our own that keeps the DO bit and client subnets. One that can't be read is
 /// answered by SERVFAIL.
 #[derive(Drop)]
 pub struct LayeredFront {
     pub(crate) settings: Settings,
+    pub(crate) required: Vec<Network>,
 }
 
 impl LayeredFront {
-    /// The layers of these settings.
-    pub fn new(settings: Settings) -> LayeredFront
-        ensures { result ≡ record { settings = settings } }
+    /// The layers of these settings, and these networks.
+    pub fn new(settings: Settings, required: Vec<Network>) -> LayeredFront
+        ensures { result ≡ record { settings = settings; required = required } }
     {
-        LayeredFront { settings }
+        LayeredFront { settings, required }
     }
 }
 
 impl Front for LayeredFront {
     type Rule = WrapPost;
 
-    ghost over = { λ f i r k. layered f.settings i r k };
+    ghost over = { λ f i r k. layered (settings_for f r) i r k };
 
-    ghost hint = { λ f. hint_left f.settings };
+    ghost hint = { λ f r. hint_left (settings_for f r) r };
 
-    ghost asks = { λ f. asked_message f.settings };
+    ghost asks = { λ f r. asked_message (settings_for f r) r };
 
     ghost given = { given };
 
@@ -59,6 +63,9 @@ impl Front for LayeredFront {
         alloc: Global,
         request: &mut Request<()>,
     ) -> Result<Taken<WrapPost>, OutOfMemory> {
+        if is_in_any(self.required.as_slice(), request.client_addr().ip) {
+            return take_denied(alloc, &self.settings, request);
+        }
         take_by(alloc, &self.settings, request)
     }
 
@@ -81,6 +88,37 @@ pub(crate) fn given_turn(alloc: Global, turned: Turned) -> Result<ServiceResult,
         Polled::Ready(turned) => turn_item(alloc, turned),
         Polled::Pending => Ok(Err(ServiceError::InternalError)),
     }
+}
+
+/// Settings by which an address is denied service without a good cookie.
+fn denying(alloc: Global, settings: &Settings, address: IpAddr) -> Result<Settings, OutOfMemory>
+    ensures { IfOk result (λ s. s ≡ denying settings.now address) }
+{
+    let mut denied = Vec::new(alloc);
+    denied.push(address)?;
+    Ok(Settings {
+        strict: settings.strict,
+        edns: settings.edns,
+        cookies: settings.cookies,
+        denied: Addrs::from_vec(denied),
+        dgram: settings.dgram,
+        stream: settings.stream,
+    })
+}
+
+/// How the layers of some settings take a request whose client is denied service without a good cookie.
+fn take_denied(
+    alloc: Global,
+    settings: &Settings,
+    request: &mut Request<()>,
+) -> Result<Taken<WrapPost>, OutOfMemory>
+    ensures taken { let s = denying settings.now request.old.client_addr.ip in
+        IfOk result (IsTaken wrap_by (λ i. layered s i request.old) (asked_message s request.old)) }
+    ensures kept { let s = denying settings.now request.old.client_addr.ip in
+        LeavesHint (hint_left s request.old) request.old request.new result }
+{
+    let settings = denying(alloc, settings, request.client_addr().ip)?;
+    take_by(alloc, &settings, request)
 }
 
 /// How the layers of some settings take a request.

@@ -2,7 +2,7 @@
 //! output.
 //!
 //! - `LayeredFront` is the layers of some settings. A NOTIFY is answered NOTAUTH, since a proxy is a secondary of no
-//!   zone.
+//!   zone. Clients of a `Network` that is required to have cookies are denied service over UDP without a good one.
 //! - `CachedFront` is the layers with a cache behind them. What they pass on is answered out of the cache if that has a
 //!   young reply, and the replies that are made of answers are kept.
 //!
@@ -23,6 +23,7 @@
 //!   answered, whatever that is (`layered`, `cached_over`).
 //! - No upstream is asked for what the layers answer themselves (a refused cookie, a NOTIFY), for what can't be read or
 //!   sent, nor where a young reply is in the cache (`asked_message`, `cached_asks`).
+//! - A client of a required network is taken as one whose address is denied service without a good cookie (`settings_for`).
 //! - The cache is asked only for requests that the layers pass on, and keeps a reply under the seconds at which its
 //!   query came (`cache_taken`, `cache_given`).
 //!
@@ -33,9 +34,11 @@
 
 mod cached;
 mod layered;
+mod networks;
 mod sendable;
 mod single;
 
 pub use cached::CachedFront;
 pub use dns_proxy::{Front, Taken};
 pub use layered::LayeredFront;
+pub use networks::Network;

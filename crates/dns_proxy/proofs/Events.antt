@@ -4,7 +4,6 @@ use Rattle.dns_base.specs.Msg.{Msg}
 use Rattle.dns_layers.specs.Rewritten.{rewritten}
 use Rattle.dns_service.specs.Answer.{Item}
 use Rattle.dns_service.specs.declared.service.Polled.TheVariants.{Pending}
-use Rattle.dns_session.specs.Datagrams.{cut_datagram, datagrams_to}
 use Rattle.dns_route.specs.Relays.{SentAnswer}
 use Rattle.dns_route.specs.declared.send_request.SendError.{SendError}
 use Rattle.dns_lookup.specs.declared.lookup.Lookup.{Lookup}
@@ -16,6 +15,7 @@ use Rattle.dns_lookup.specs.Stages.{IsAt, Steps}
 use Rattle.dns_proxy.specs.declared.query_event.QueryOutcome.{QueryOutcome}
 use Rattle.dns_proxy.specs.declared.query_event.QueryOutcome.TheVariants.{Nothing, Send, Connect, Reply}
 use Rattle.dns_proxy.specs.declared.query.Query.{Query}
+use Rattle.dns_proxy.specs.Coming.{message_of, outputs_to}
 use Rattle.dns_proxy.specs.Proxied.{Asked, answer_of, came_to, outcome_after, sent, sent_for, sent_over, subject, with_event}
 use Rattle.dns_proxy.specs.Queries.{FrontAfter, Goes, GoesBy, Stands, front_by, replied}
 
@@ -82,12 +82,12 @@ module _ {R : Type 0} (rewriting : R → Msg → Msg) (q : Query R) (l : Lookup)
 
     -- the client is sent what its exchange sends over what the answer gives
     reply-so : (r : Result (List ℕ) SendError) → o ≡ Led_to.Answer r
-        → datagrams_to a.came.client (replied q.limit q.request.octets (rewritten (rewriting q.rule) (given q.request.octets r))) ≡ sent given (with_event a e)
+        → outputs_to a.came (replied q.limit q.request.octets (rewritten (rewriting q.rule) (given q.request.octets r))) ≡ sent given (with_event a e)
     reply-so r is =
-        let all : sent given (with_event a e) ≡ sent_over a.front a.dgram a.came (given (cut_datagram a.came.octets) r) =
+        let all : sent given (with_event a e) ≡ sent_over a.front a.dgram a.came (given (message_of a.came) r) =
         ap (λ (w : SentAnswer). sent_for given a.front a.dgram a.came w) (answer-so ∙ ap (λ (w : LookupOutcome). answer_among (w ∷ [])) is) in
-        subst (λ (m : List ℕ). datagrams_to a.came.client (replied q.limit m (rewritten (rewriting q.rule) (given m r))) ≡ sent given (with_event a e)) (sym s.octets)
-        (s.replies (given (cut_datagram a.came.octets) r) ∙ sym all)
+        subst (λ (m : List ℕ). outputs_to a.came (replied q.limit m (rewritten (rewriting q.rule) (given m r))) ≡ sent given (with_event a e)) (sym s.octets)
+        (s.replies (given (message_of a.came) r) ∙ sym all)
 
     pub goes-reply : (r : Result (List ℕ) SendError) (t : QueryOutcome) (left : Query R) → o ≡ Led_to.Answer r
         → t ≡ Reply (replied q.limit q.request.octets (rewritten (rewriting q.rule) (given q.request.octets r))) → Goes rewriting given a e t left
@@ -104,5 +104,5 @@ module _ {R : Type 0} (rewriting : R → Msg → Msg) (q : Query R) (l : Lookup)
     front-gave old new r is gave =
         gave
         ∙ (ap (λ (m : List ℕ). after_give old m q.request.received_secs r) s.octets
-        ∙ (ap (λ (n : ℕ). after_give old (cut_datagram a.came.octets) n r) s.secs
+        ∙ (ap (λ (n : ℕ). after_give old (message_of a.came) n r) s.secs
         ∙ (ap (front_by after_give a.came old) (sym is) ∙ ap (front_by after_give a.came old) outcome-so)))

@@ -7,24 +7,25 @@ use Rattle.dns_events.specs.Config.{Dgram}
 use Rattle.dns_service.specs.Answer.{Item}
 use Rattle.dns_service.specs.Req.{Req}
 use Rattle.dns_service.specs.declared.service.Polled.TheVariants.{Ready}
-use Rattle.dns_session.specs.Datagrams.{cut_datagram, datagrams_to}
 use Rattle.dns_forward.specs.Matching.{with_id}
 use Rattle.dns_route.specs.declared.send_request.SendError.{SendError}
 use Rattle.dns_lookup.specs.declared.lookup_event.LookupEvent.{LookupEvent}
 use Rattle.dns_lookup.specs.declared.lookup_event.LookupOutcome.{LookupOutcome}
 use Rattle.dns_lookup.specs.declared.lookup_event.LookupOutcome.TheVariants as Led_to
 use Rattle.dns_lookup.specs.declared.lookup_event.UpstreamConfig.{UpstreamConfig}
-use Rattle.dns_proxy.specs.declared.query_event.ClientDatagram.{ClientDatagram}
+use Rattle.dns_proxy.specs.declared.query_event.ClientMessage.{ClientMessage}
 use Rattle.dns_proxy.specs.declared.query_event.QueryOutcome.{QueryOutcome}
 use Rattle.dns_proxy.specs.declared.query_event.QueryOutcome.TheVariants.{Nothing, Send, Connect, Reply}
 use Rattle.dns_proxy.specs.declared.query.Query.{Query}
 use Rattle.dns_proxy.specs.declared.beginning.BegunQuery.TheVariants as Begun
 use Rattle.dns_proxy.specs.declared.proxy.Started.{Started}
-use Rattle.dns_proxy.specs.declared.proxy.Started.TheVariants.{Sent}
+use Rattle.dns_proxy.specs.declared.proxy.Started.TheVariants.{Sent, Short}
+use Rattle.dns_proxy.specs.declared.proxy.WhenFull.{WhenFull}
+use Rattle.dns_proxy.specs.Coming.{message_of, outputs_to}
 use Rattle.dns_proxy.specs.Fronts.{Fronting}
-use Rattle.dns_proxy.specs.Proxied.{Asked, outcome_after, sent_for, with_event}
+use Rattle.dns_proxy.specs.Proxied.{Asked, due_of, outcome_after, sent_for, with_event}
 use Rattle.dns_proxy.specs.Queries.{Begins, FrontAfter, Goes, GoesBy, Stands, front_taken, replied}
-use Rattle.dns_proxy.specs.Places.{Enters, GoesAt, StandsAt, Starts, StartsBy, ends, front_at, kept_at}
+use Rattle.dns_proxy.specs.Places.{Enters, GoesAt, StandsAt, Starts, StartsBy, due_there, ends, front_at, kept_at}
 
 -- a test of a value is one of another that is the same
 pub test-is : {one two : Bool} {b : Bool} → one ≡ two → one ≡ b → two ≡ b
@@ -76,14 +77,14 @@ module _ {R : Type 0} (rewriting : R → Msg → Msg) (given : List ℕ → Resu
 
   -- what is sent where no place is free
   pub refused : (q : Query R) (a : Asked) (o : Option (List ℕ)) (r : Result (List ℕ) SendError) → o ≡ replied q.limit q.request.octets (rewritten (rewriting q.rule) (given q.request.octets r)) → Stands rewriting q a
-      → datagrams_to a.came.client o ≡ sent_for given a.front a.dgram a.came (Ready r)
-  refused q a o r is s = subst (λ (x : Option (List ℕ)). datagrams_to a.came.client x ≡ sent_for given a.front a.dgram a.came (Ready r)) (sym is)
-      (subst (λ (m : List ℕ). datagrams_to a.came.client (replied q.limit m (rewritten (rewriting q.rule) (given m r))) ≡ sent_for given a.front a.dgram a.came (Ready r)) (sym s.octets) (s.replies (given (cut_datagram a.came.octets) r)))
+      → outputs_to a.came o ≡ sent_for given a.front a.dgram a.came (Ready r)
+  refused q a o r is s = subst (λ (x : Option (List ℕ)). outputs_to a.came x ≡ sent_for given a.front a.dgram a.came (Ready r)) (sym is)
+      (subst (λ (m : List ℕ). outputs_to a.came (replied q.limit m (rewritten (rewriting q.rule) (given m r))) ≡ sent_for given a.front a.dgram a.came (Ready r)) (sym s.octets) (s.replies (given (message_of a.came) r)))
 
   module _ {F : Type 0} (after_give : F → List ℕ → ℕ → Result (List ℕ) SendError → F) where
     pub gave-so : (q : Query R) (a : Asked) (old new : F) (r : Result (List ℕ) SendError) → new ≡ after_give old q.request.octets q.request.received_secs r → Stands rewriting q a
-        → new ≡ after_give old (cut_datagram a.came.octets) a.came.secs r
-    gave-so q a old new r is s = is ∙ (ap (λ (m : List ℕ). after_give old m q.request.received_secs r) s.octets ∙ ap (λ (n : ℕ). after_give old (cut_datagram a.came.octets) n r) s.secs)
+        → new ≡ after_give old (message_of a.came) a.came.secs r
+    gave-so q a old new r is s = is ∙ (ap (λ (m : List ℕ). after_give old m q.request.received_secs r) s.octets ∙ ap (λ (n : ℕ). after_give old (message_of a.came) n r) s.secs)
 
 pub free_so : {Q : Type 0} (p : Option ℕ) (A : Type 0) (k : ℕ) (mid old : List (Option Q)) → p ≡ Some k → MatchOption p A (λ j. slice_get mid j ≡ Some None) → kept_at k mid ≡ kept_at k old → kept_at k old ≡ None
 free_so {Q} p A k mid old is free e =
@@ -91,17 +92,32 @@ free_so {Q} p A k mid old is free e =
     sym e ∙ ap (λ (x : Option (Option Q)). option_and_then (λ (q : Option Q). q) x) there
 
 module _ {R : Type 0} (rewriting : R → Msg → Msg) (given : List ℕ → Result (List ℕ) SendError → Item) {F : Type 0} (after_give : F → List ℕ → ℕ → Result (List ℕ) SendError → F) (after_take : F → Req (Unit {0}) → F)
-    (bound : ℕ) (f : Fronting) (dgram : Dgram) (c : ClientDatagram) (u : UpstreamConfig) (id : ℕ) (front : F) (before : List (Option (Query R))) where
+    (bound : ℕ) (when : WhenFull) (f : Fronting) (dgram : Dgram) (c : ClientMessage) (u : UpstreamConfig) (id : ℕ) (front : F) (before : List (Option (Query R))) where
   pub starts_sent : (o : Option (List ℕ)) (new : F) → Begins rewriting f dgram c u id (Begun.Sent o) → new ≡ front_taken after_take dgram c front
-      → Starts rewriting given after_give after_take bound f dgram c u id front before (Sent o) new before
+      → Starts rewriting given after_give after_take bound when f dgram c u id front before (Sent o) new before
   starts_sent o new says taken =
-      subst (λ (m : Option (List ℕ)). StartsBy rewriting given after_give m bound f dgram c u id (front_taken after_take dgram c front) before (Sent o) new before) (sym says.0) ((λ k. refl), says.1, taken)
+      subst (λ (m : Option (List ℕ)). StartsBy rewriting given after_give m bound when f dgram c u id (front_taken after_take dgram c front) before (Sent o) new before) (sym says.0) ((λ k. refl), says.1, taken)
+
+  pub starts_short : (new : F) → Begins rewriting f dgram c u id Begun.Short → new ≡ front_taken after_take dgram c front
+      → Starts rewriting given after_give after_take bound when f dgram c u id front before Short new before
+  starts_short new says taken =
+      subst (λ (m : Option (List ℕ)). StartsBy rewriting given after_give m bound when f dgram c u id (front_taken after_take dgram c front) before Short new before) (sym says.0) ((λ k. refl), says.1, taken)
 
   pub starts_asks : (q : Query R) (octets : List ℕ) (mid new : F) (s : Started) (after : List (Option (Query R))) → Begins rewriting f dgram c u id (Begun.Asks q octets) → mid ≡ front_taken after_take dgram c front
-      → ((a : Asked) → Stands rewriting q a → Enters rewriting given after_give bound a octets mid before s new after)
-      → Starts rewriting given after_give after_take bound f dgram c u id front before s new after
+      → ((a : Asked) → Stands rewriting q a → Enters rewriting given after_give bound when a octets mid before s new after)
+      → Starts rewriting given after_give after_take bound when f dgram c u id front before s new after
   starts_asks q octets mid new s after says taken enters =
       let a : Asked = record { front = f; dgram = dgram; came = c; upstream = u; message = says.0; id = id; events = [] } in
-      subst (λ (m : Option (List ℕ)). StartsBy rewriting given after_give m bound f dgram c u id (front_taken after_take dgram c front) before s new after) (sym says.1)
-      (subst (λ (x : F). Enters rewriting given after_give bound a (with_id id says.0) x before s new after) taken
-      (subst (λ (o : List ℕ). Enters rewriting given after_give bound a o mid before s new after) says.2 (enters a says.3)))
+      subst (λ (m : Option (List ℕ)). StartsBy rewriting given after_give m bound when f dgram c u id (front_taken after_take dgram c front) before s new after) (sym says.1)
+      (subst (λ (x : F). Enters rewriting given after_give bound when a (with_id id says.0) x before s new after) taken
+      (subst (λ (o : List ℕ). Enters rewriting given after_give bound when a o mid before s new after) says.2 (enters a says.3)))
+
+module _ {R : Type 0} (rewriting : R → Msg → Msg) where
+  -- when a tick is due is read of the query at a place
+  pub due-none : (p : Option (Query R)) (a : Option Asked) → p ≡ None → StandsAt rewriting p a → None ≡ due_there a
+  due-none p None is s = refl
+  due-none p (Some a) is s = absurd (subst (λ (x : Option (Query R)). StandsAt rewriting x (Some a)) is s)
+
+  pub due-some : (p : Option (Query R)) (q : Query R) (a : Option Asked) (due : Option ℕ) → p ≡ Some q → ((x : Asked) → Stands rewriting q x → due ≡ due_of x) → StandsAt rewriting p a → due ≡ due_there a
+  due-some p q None due is h s = absurd (subst (λ (x : Option (Query R)). StandsAt rewriting x None) is s)
+  due-some p q (Some a) due is h s = h a (subst (λ (x : Option (Query R)). StandsAt rewriting x (Some a)) is s)

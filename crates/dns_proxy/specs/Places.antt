@@ -5,20 +5,22 @@ use Rattle.dns_events.specs.Config.{Dgram}
 use Rattle.dns_service.specs.Answer.{Item}
 use Rattle.dns_service.specs.Req.{Req}
 use Rattle.dns_service.specs.declared.service.Polled.TheVariants.{Ready}
-use Rattle.dns_session.specs.Datagrams.{cut_datagram, datagrams_to}
 use Rattle.dns_forward.specs.Matching.{with_id}
 use Rattle.dns_route.specs.declared.send_request.SendError.{SendError}
 use Rattle.dns_route.specs.declared.send_request.SendError.TheVariants.{Unreachable}
 use Rattle.dns_lookup.specs.declared.lookup_event.LookupEvent.{LookupEvent}
 use Rattle.dns_lookup.specs.declared.lookup_event.UpstreamConfig.{UpstreamConfig}
-use Rattle.dns_proxy.specs.declared.query_event.ClientDatagram.{ClientDatagram}
+use Rattle.dns_proxy.specs.declared.query_event.ClientMessage.{ClientMessage}
 use Rattle.dns_proxy.specs.declared.query_event.QueryOutcome.{QueryOutcome}
 use Rattle.dns_proxy.specs.declared.query_event.QueryOutcome.TheVariants.{Nothing, Send, Connect, Reply}
 use Rattle.dns_proxy.specs.declared.query.Query.{Query}
 use Rattle.dns_proxy.specs.declared.proxy.Started.{Started}
-use Rattle.dns_proxy.specs.declared.proxy.Started.TheVariants.{Sent, Asks}
+use Rattle.dns_proxy.specs.declared.proxy.Started.TheVariants.{Sent, Short, Full, Asks}
+use Rattle.dns_proxy.specs.declared.proxy.WhenFull.{WhenFull}
+use Rattle.dns_proxy.specs.declared.proxy.WhenFull.TheVariants.{Fail, Wait}
+use Rattle.dns_proxy.specs.Coming.{closed_by, message_of, outputs_to}
 use Rattle.dns_proxy.specs.Fronts.{Fronting}
-use Rattle.dns_proxy.specs.Proxied.{Asked, asked_for, outcome_after, sent_for, sent_over, with_event}
+use Rattle.dns_proxy.specs.Proxied.{Asked, asked_for, due_of, outcome_after, sent_for, sent_over, with_event}
 use Rattle.dns_proxy.specs.Queries.{GoesBy, Stands, front_by, front_taken}
 
 -- the query at a place
@@ -38,6 +40,11 @@ ends (Reply o) = true
 ends Nothing = false
 ends (Send o) = false
 ends (Connect o) = false
+
+-- when a tick of what is asked at a place is due, if anything is asked there
+abbrev pub due_there : Option Asked → Option ℕ
+due_there None = None
+due_there (Some a) = due_of a
 
 -- what stood before the upstreams is, behind an event of what is asked at a place, if anything is
 abbrev pub front_at : {F : Type 0} → (F → List ℕ → ℕ → Result (List ℕ) SendError → F) → Option Asked → LookupEvent → F → F
@@ -60,27 +67,32 @@ module _ {R : Type 0} (rewriting : R → Msg → Msg) where
 
     module _ {F : Type 0} (after_give : F → List ℕ → ℕ → Result (List ℕ) SendError → F) where
       -- a query whose upstream is sent these octets takes a place that was free, and no other changes; or, where none is free, its
-      -- client is sent what it is where no upstream can be reached
-      abbrev pub Enters : ℕ → Asked → List ℕ → F → List (Option (Query R)) → Started → F → List (Option (Query R)) → Type 0
-      Enters bound a octets front before (Sent o) new after = IsFull bound before × IsSame before after
-          × (datagrams_to a.came.client o ≡ sent_for given a.front a.dgram a.came (Ready (Err Unreachable)))
-          × (new ≡ after_give front (cut_datagram a.came.octets) a.came.secs (Err Unreachable))
-      Enters bound a octets front before (Asks place o) new after = (o ≡ octets) × (kept_at place before ≡ None)
+      -- client is sent what it is where no upstream can be reached, or, where it is to wait, nothing is kept of it
+      abbrev pub Enters : ℕ → WhenFull → Asked → List ℕ → F → List (Option (Query R)) → Started → F → List (Option (Query R)) → Type 0
+      Enters bound when a octets front before (Sent o) new after = (when ≡ Fail) × IsFull bound before × IsSame before after
+          × (outputs_to a.came o ≡ sent_for given a.front a.dgram a.came (Ready (Err Unreachable)))
+          × (new ≡ after_give front (message_of a.came) a.came.secs (Err Unreachable))
+      Enters bound when a octets front before Short new after = ⊥
+      Enters bound when a octets front before Full new after = (when ≡ Wait) × IsFull bound before × IsSame before after × (new ≡ front)
+      Enters bound when a octets front before (Asks place o) new after = (o ≡ octets) × (kept_at place before ≡ None)
           × StandsAt (kept_at place after) (Some a) × ((k : ℕ) → k ≢ place → kept_at k after ≡ kept_at k before)
           × (new ≡ front)
 
       -- no upstream is asked, and the client is sent what it is whatever would be given
-      abbrev pub IsAnswered : Fronting → Dgram → ClientDatagram → F → List (Option (Query R)) → Started → F → List (Option (Query R)) → Type 0
-      IsAnswered f dgram c front before (Sent o) new after = IsSame before after × ((i : Item) → datagrams_to c.client o ≡ sent_over f dgram c i)
+      abbrev pub IsAnswered : Fronting → Dgram → ClientMessage → F → List (Option (Query R)) → Started → F → List (Option (Query R)) → Type 0
+      IsAnswered f dgram c front before (Sent o) new after = IsSame before after × ((i : Item) → outputs_to c o ≡ sent_over f dgram c i)
           × (new ≡ front)
+      IsAnswered f dgram c front before Short new after = IsSame before after × ((i : Item) → closed_by c.transport c.client ≡ sent_over f dgram c i)
+          × (new ≡ front)
+      IsAnswered f dgram c front before Full new after = ⊥
       IsAnswered f dgram c front before (Asks place o) new after = ⊥
 
-      -- how a datagram starts, by the message that is asked for it, if one is
-      abbrev pub StartsBy : Option (List ℕ) → ℕ → Fronting → Dgram → ClientDatagram → UpstreamConfig → ℕ → F → List (Option (Query R)) → Started → F → List (Option (Query R)) → Type 0
-      StartsBy None bound f dgram c u id front before s new after = IsAnswered f dgram c front before s new after
-      StartsBy (Some m) bound f dgram c u id front before s new after =
-          Enters bound (record { front = f; dgram = dgram; came = c; upstream = u; message = m; id = id; events = [] }) (with_id id m) front before s new after
+      -- how a message starts, by the message that is asked for it, if one is
+      abbrev pub StartsBy : Option (List ℕ) → ℕ → WhenFull → Fronting → Dgram → ClientMessage → UpstreamConfig → ℕ → F → List (Option (Query R)) → Started → F → List (Option (Query R)) → Type 0
+      StartsBy None bound when f dgram c u id front before s new after = IsAnswered f dgram c front before s new after
+      StartsBy (Some m) bound when f dgram c u id front before s new after =
+          Enters bound when (record { front = f; dgram = dgram; came = c; upstream = u; message = m; id = id; events = [] }) (with_id id m) front before s new after
 
-      abbrev pub Starts : (F → Req (Unit {0}) → F) → ℕ → Fronting → Dgram → ClientDatagram → UpstreamConfig → ℕ → F → List (Option (Query R)) → Started → F → List (Option (Query R)) → Type 0
-      Starts after_take bound f dgram c u id front before s new after =
-          StartsBy (asked_for f dgram c) bound f dgram c u id (front_taken after_take dgram c front) before s new after
+      abbrev pub Starts : (F → Req (Unit {0}) → F) → ℕ → WhenFull → Fronting → Dgram → ClientMessage → UpstreamConfig → ℕ → F → List (Option (Query R)) → Started → F → List (Option (Query R)) → Type 0
+      Starts after_take bound when f dgram c u id front before s new after =
+          StartsBy (asked_for f dgram c) bound when f dgram c u id (front_taken after_take dgram c front) before s new after

@@ -3,30 +3,29 @@
 ghost use Rattle.std.specs.Prelude.{◌≡◌, ℕ, false, IfOk, OnOk};
 ghost use Rattle.dns_events.specs.Config.{Dgram};
 ghost use Rattle.dns_service.specs.Transport.{hint_of, limit, limit_over};
-ghost use Rattle.dns_session.specs.Datagrams.{asks_nothing, cut_datagram, datagrams_to, refused_datagram};
-ghost use Rattle.dns_proxy.specs.declared.query_event.ClientDatagram.{ClientDatagram as TheDatagram};
+ghost use Rattle.dns_session.specs.Datagrams.{asks_nothing};
+ghost use Rattle.dns_proxy.specs.declared.query_event.ClientMessage.{ClientMessage as TheMessage};
+ghost use Rattle.dns_proxy.specs.Coming.{message_of, request_of};
 ghost use Rattle.dns_proxy.specs.Fronts.{fronting};
-ghost use Rattle.dns_proxy.specs.Proxied.{request_of};
 ghost use Rattle.dns_proxy.specs.Queries.{Begins, IsAsked, front_taken, replied};
 
+use crate::coming::{octets_read, refuse, request_of};
 use crate::front::{Front, Taken};
 use crate::query::Query;
-use crate::query_event::ClientDatagram;
+use crate::query_event::ClientMessage;
 use crate::replied::replied;
 use dns_base::Message;
 use dns_lookup::{UpstreamConfig, begin_lookup};
-use dns_name::OptRcode;
-use dns_service::{
-    DgramConfig, Octets, OutOfMemory, Request, ServiceResult, limit_over, reply_limit,
-};
-use dns_session::{cut_given, datagram_of, datagram_request, refused};
+use dns_service::{DgramConfig, Octets, OutOfMemory, Request, ServiceResult, limit_over};
 use std::alloc::Global;
 
-/// What a datagram begins.
+/// What a message begins.
 #[derive(Drop)]
 pub enum BegunQuery<R> {
     /// Its client is to be sent this, where there is something, and no upstream is asked.
     Sent(Option<Octets>),
+    /// The message is shorter than a header. Nothing is sent for it, and a connection over which it came is to be closed.
+    Short,
     /// An upstream is to be sent this.
     Asks(Query<R>, Octets),
 }
@@ -39,26 +38,13 @@ fn limit_of(request: &Request<()>) -> Option<u16>
     limit_over(transport, transport.hint())
 }
 
-/// What the sender of a response is sent.
-fn refuse(
-    alloc: Global,
-    message: &Message,
-    config: &DgramConfig,
-) -> Result<Option<Octets>, OutOfMemory>
-    ensures { IfOk result (λ o. (client : ℕ) → datagrams_to client o ≡ refused_datagram client config.now message.now) }
-{
-    let limit = reply_limit(config.max_response_size());
-    let reply = refused(alloc, message, Some(limit), OptRcode::FORMERR)?;
-    Ok(Some(datagram_of(reply)))
-}
-
-/// Begins with a client's datagram, for which an upstream is asked under an identifier where it makes a request that is passed
-/// on. What is longer than 1,024 octets is cut. Below 12 octets nothing is sent, and a response is refused at once.
+/// Begins with a client's message, for which an upstream is asked under an identifier where it makes a request that is passed on.
+/// Of a datagram 1,024 octets are read at most. Below 12 octets nothing is sent, and a response is refused at once.
 pub fn begin_query<F: Front>(
     alloc: Global,
     front: &mut F,
     config: &DgramConfig,
-    came: &ClientDatagram,
+    came: &ClientMessage,
     upstream: UpstreamConfig,
     id: u16,
 ) -> Result<BegunQuery<F::Rule>, OutOfMemory>
@@ -66,15 +52,15 @@ pub fn begin_query<F: Front>(
         IfOk result (Begins F.Rule.rewriting f config.now came.now upstream id) }
     ensures front { OnOk result (front.new ≡ front_taken F.after_take config.now came.now front.old) }
 {
-    let octets = Octets::from_slice(alloc, came.octets.as_slice())?;
-    let Ok(message) = Message::from_octets(cut_given(octets)) else {
-        return Ok(BegunQuery::Sent(None));
+    let octets = octets_read(alloc, came)?;
+    let Ok(message) = Message::from_octets(octets) else {
+        return Ok(BegunQuery::Short);
     };
     if message.header().qr {
-        let octets = refuse(alloc, &message, config)?;
-        return Ok(BegunQuery::Sent(octets));
+        let refusal = refuse(alloc, &message, came.transport, config)?;
+        return Ok(BegunQuery::Sent(Some(refusal)));
     }
-    let request = datagram_request(alloc, config, came.addr, came.at, came.secs, message)?;
+    let request = request_of(alloc, config, came, message)?;
     take(alloc, front, came.client, request, upstream, id)
 }
 
@@ -88,8 +74,8 @@ fn take<F: Front>(
     id: u16,
 ) -> Result<BegunQuery<F::Rule>, OutOfMemory>
     ensures begun { let f = fronting (F.over front.old) (F.hint front.old) (F.asks front.old) in
-        IfOk result (λ b. (dgram : Dgram) (c : TheDatagram) → request ≡ request_of dgram c → client ≡ c.client
-        → asks_nothing (cut_datagram c.octets) ≡ false → Begins F.Rule.rewriting f dgram c upstream id b) }
+        IfOk result (λ b. (dgram : Dgram) (c : TheMessage) → request ≡ request_of dgram c → client ≡ c.client
+        → asks_nothing (message_of c) ≡ false → Begins F.Rule.rewriting f dgram c upstream id b) }
     ensures front { OnOk result (front.new ≡ F.after_take front.old request) }
 {
     let mut request = request;

@@ -2,26 +2,40 @@
 
 ghost use Rattle.std.specs.Prelude.{◌≡◌, ◌≢◌, ℕ, [], IfOk, MatchOption, None, OnErr, OnOk, Option, Some, slice_get};
 ghost use Rattle.dns_proxy.specs.Fronts.{fronting};
-ghost use Rattle.dns_proxy.specs.Places.{Enters, GoesAt, IsFull, IsSame, StandsAt, Starts, ends, front_at, kept_at};
+ghost use Rattle.dns_proxy.specs.Places.{Enters, GoesAt, IsFull, IsSame, StandsAt, Starts, due_there, ends, front_at, kept_at};
 ghost use Rattle.dns_proxy.specs.Proxied.{Asked};
 ghost use Rattle.dns_proxy.specs.Queries.{Stands};
 
 use crate::beginning::{BegunQuery, begin_query};
 use crate::front::Front;
 use crate::query::Query;
-use crate::query_event::{ClientDatagram, QueryOutcome};
+use crate::query_event::{ClientMessage, QueryOutcome};
+use dns_layers::Rewrite;
 use dns_lookup::{LookupEvent, UpstreamConfig};
 use dns_route::SendError;
 use dns_service::{DgramConfig, Octets, OutOfMemory};
 use std::alloc::Global;
 
-/// How a client's datagram starts.
+/// How a client's message starts.
 #[derive(Drop)]
 pub enum Started {
     /// Its client is to be sent this, where there is something, and no upstream is asked.
     Sent(Option<Octets>),
+    /// The message is shorter than a header. Nothing is sent for it, and a connection over which it came is to be closed.
+    Short,
+    /// There is no room for one query more, and this one is to wait. Its owner keeps the message, and begins with it again later.
+    Full,
     /// The upstream is to be sent this from the port of a place, which is to be opened at random.
     Asks { place: usize, octets: Octets },
+}
+
+/// What is done with one query more than there may be.
+#[derive(Clone, Copy)]
+pub enum WhenFull {
+    /// Its client is answered as where no upstream can be reached.
+    Fail,
+    /// It waits, and isn't begun yet.
+    Wait,
 }
 
 /// Queries at places, of which there are so many at most. Each place has a port of its own, so that no query hears what comes to
@@ -62,6 +76,16 @@ fn step_place<F: Front>(
         return Ok(outcome);
     }
     Ok(outcome)
+}
+
+/// When a tick of what is kept at a place is due.
+fn deadline_of<R: Rewrite>(place: &Option<Query<R>>) -> Option<u64>
+    ensures { (a : Option Asked) → StandsAt R.rewriting place.now a → result ≡ due_there a }
+{
+    match place {
+        Some(query) => query.deadline(),
+        None => None,
+    }
 }
 
 impl<F: Front> Proxy<F> {
@@ -107,6 +131,18 @@ impl<F: Front> Proxy<F> {
         }
     }
 
+    /// The first moment at which a tick of the query at a place is due, so that its owner need not look before. There is none
+    /// where no query is.
+    pub fn deadline(&self, place: usize) -> Option<u64>
+        ensures { (a : Option Asked) → StandsAt F.Rule.rewriting (kept_at place self.now.places.items) a
+            → result ≡ due_there a }
+    {
+        if place >= self.places.len() {
+            return None;
+        }
+        deadline_of(&self.places[place])
+    }
+
     /// A place where no query is, if there is one: a new one where all are taken and there may be more.
     fn free_place(&mut self) -> Result<Option<usize>, OutOfMemory>
         ensures free { IfOk result (λ p. MatchOption p (IsFull self.old.bound self.old.places.items)
@@ -134,15 +170,16 @@ impl<F: Front> Proxy<F> {
         self.places[place] = Some(query);
     }
 
-    /// A query takes a place, where there is room, and else its client is sent why not.
+    /// A query takes a place, where there is room. Else its client is sent why not, or nothing is kept of it where it is to wait.
     fn enter(
         &mut self,
         alloc: Global,
         query: Query<F::Rule>,
         octets: Octets,
+        when_full: WhenFull,
     ) -> Result<Started, OutOfMemory>
         ensures entered { IfOk result (λ s. (a : Asked) → Stands F.Rule.rewriting query a
-            → Enters F.Rule.rewriting F.given F.after_give self.old.bound a octets
+            → Enters F.Rule.rewriting F.given F.after_give self.old.bound when_full a octets
             self.old.front self.old.places.items s self.new.front self.new.places.items) }
         ensures err { OnErr result (IsSame self.old.places.items self.new.places.items) }
         ensures rest { self.new ≡ record self.old { front = self.new.front; places = self.new.places } }
@@ -152,26 +189,31 @@ impl<F: Front> Proxy<F> {
                 self.put(place, query);
                 Ok(Started::Asks { place, octets })
             }
-            Ok(None) => {
-                let octets = query.reply(alloc, &mut self.front, Err(SendError::Unreachable))?;
-                Ok(Started::Sent(octets))
-            }
+            Ok(None) => match when_full {
+                WhenFull::Fail => {
+                    let unreachable = Err(SendError::Unreachable);
+                    let octets = query.reply(alloc, &mut self.front, unreachable)?;
+                    Ok(Started::Sent(octets))
+                }
+                WhenFull::Wait => Ok(Started::Full),
+            },
             Err(error) => Err(error),
         }
     }
 
-    /// Starts with a client's datagram, for which an upstream is asked under an identifier, which is to be picked at random,
+    /// Starts with a client's message, for which an upstream is asked under an identifier, which is to be picked at random,
     /// where it makes a request that is passed on. Where there is no room for one query more, its client is answered as where
-    /// no upstream can be reached.
+    /// no upstream can be reached, or it is to wait, as is said.
     pub fn begin(
         &mut self,
         alloc: Global,
-        came: &ClientDatagram,
+        came: &ClientMessage,
         upstream: UpstreamConfig,
         id: u16,
+        when_full: WhenFull,
     ) -> Result<Started, OutOfMemory>
         ensures starts { let f = fronting (F.over self.old.front) (F.hint self.old.front) (F.asks self.old.front) in
-            IfOk result (λ s. Starts F.Rule.rewriting F.given F.after_give F.after_take self.old.bound f
+            IfOk result (λ s. Starts F.Rule.rewriting F.given F.after_give F.after_take self.old.bound when_full f
             self.old.config came.now upstream id
             self.old.front self.old.places.items s self.new.front self.new.places.items) }
         ensures err { OnErr result (IsSame self.old.places.items self.new.places.items) }
@@ -179,7 +221,8 @@ impl<F: Front> Proxy<F> {
     {
         match begin_query(alloc, &mut self.front, &self.config, came, upstream, id) {
             Ok(BegunQuery::Sent(octets)) => Ok(Started::Sent(octets)),
-            Ok(BegunQuery::Asks(query, octets)) => self.enter(alloc, query, octets),
+            Ok(BegunQuery::Short) => Ok(Started::Short),
+            Ok(BegunQuery::Asks(query, octets)) => self.enter(alloc, query, octets, when_full),
             Err(error) => Err(error),
         }
     }

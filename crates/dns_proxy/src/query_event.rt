@@ -2,11 +2,21 @@
 
 use dns_name::{Octets, SocketAddr};
 
-/// A datagram of a client: the client's number, its address, and when it came, in ms and seconds.
+/// How a client's message came.
+#[derive(Clone, Copy)]
+pub enum ClientTransport {
+    /// In a datagram.
+    Datagram,
+    /// Over a connection that may be idle for so many ms.
+    Connection { idle_timeout: u64 },
+}
+
+/// A message of a client: the client's number, its address, how it came, and when, in ms and seconds.
 #[derive(Drop)]
-pub struct ClientDatagram {
+pub struct ClientMessage {
     pub client: u64,
     pub addr: SocketAddr,
+    pub transport: ClientTransport,
     pub at: u64,
     pub secs: u64,
     pub octets: Octets,

@@ -1,21 +1,38 @@
 -- What the configuration of a proxy sets beside that of a name server. A key that isn't there leaves the value that one starts from,
 -- and each value is limited to its range.
-use Rattle.std.specs.Prelude.{ℕ, ◌+◌, ◌==◌, Bool, List, length, map, reverse, Option, None}
+use Rattle.std.specs.Prelude.{ℕ, ◌+◌, ◌==◌, Bool, List, [], length, map, reverse, Option, Some, None, unwrap_or}
 use Rattle.std.specs.List.{find}
 use Rattle.dns_lookup.specs.declared.lookup_event.UpstreamConfig.{UpstreamConfig}
 use Rattle.dns_config.specs.Configurations.{value_of}
 use Rattle.dns_config.specs.declared.address.Endpoint.{Endpoint}
 use Rattle.dns_config.specs.declared.config.Limits.{Limits as ServerLimits}
 use Rattle.dns_config.specs.declared.config.Timeouts.{Timeouts}
+use Rattle.dns_config.specs.declared.config.Cookies.{Cookies}
+use Rattle.dns_config.specs.declared.prefix.Prefix.{Prefix}
+use Rattle.dns_proxy_config.specs.declared.cookies.CookieKeys.{CookieKeys}
+use Rattle.dns_proxy_config.specs.declared.when_full.WhenFull.{WhenFull}
+use Rattle.dns_proxy_config.specs.declared.when_full.WhenFull.TheVariants.{Fail}
 use Rattle.dns_proxy_config.specs.declared.limits.Limits.{Limits}
 use Rattle.dns_proxy_config.specs.declared.config.UpstreamEntry.{UpstreamEntry}
 
--- the limits that a name server has too, and none of its timeouts
-abbrev pub response_limit : Limits → ServerLimits
-response_limit l = record { response_size = l.response_size; connections = None; turn_away = None; queued_responses = None; responses = None }
+-- the limits and times that a name server has too: the requests of a connection that wait are its responses that may be queued
+abbrev pub client_limits : Limits → ServerLimits
+client_limits l = record { response_size = l.response_size; connections = l.connections; turn_away = None; queued_responses = l.requests; responses = None }
 
-abbrev pub no_timeouts : Timeouts
-no_timeouts = record { idle = None; write = None; window = None; datagram_write = None }
+abbrev pub client_timeouts : Limits → Timeouts
+client_timeouts l = record { idle = l.idle; write = None; window = None; datagram_write = None }
+
+-- what is done with one query more: its client is answered, where nothing is said
+abbrev pub when_full_of : Limits → WhenFull
+when_full_of l = unwrap_or l.when_full Fail
+
+-- the cookies that a name server has too, and the networks that need one
+abbrev pub server_cookies : CookieKeys → Cookies
+server_cookies k = record { secret = k.secret; deny = k.deny }
+
+abbrev pub required_of : Option CookieKeys → List Prefix
+required_of None = []
+required_of (Some k) = k.require.items
 
 -- how many replies the cache keeps, and how many queries may be asked of upstreams at once
 abbrev pub replies_of : Option ℕ → ℕ

@@ -2,10 +2,11 @@
 
 ghost use Rattle.std.specs.Prelude.{◌≡◌, ◌≢◌, [], IfOk, IsSome};
 ghost use Rattle.toml.specs.Parse.{parse_document};
-ghost use Rattle.dns_proxy_config.specs.Proxies.{no_timeouts, replies_of, response_limit};
+ghost use Rattle.dns_proxy_config.specs.Proxies.{client_limits, client_timeouts, replies_of};
 
+use crate::cookies::{CookieKeys, cookies_of};
 use crate::limits::Limits;
-use dns_config::{Config as ServerConfig, ConfigError, Cookies, Endpoint, Timeouts, ZoneName};
+use dns_config::{Config as ServerConfig, ConfigError, Cookies, Endpoint, Prefix, ZoneName};
 use serde::Deserialize;
 use std::alloc::Global;
 
@@ -15,8 +16,11 @@ const REPLIES: usize = 10_000;
 /// Where a proxy listens, which servers it asks, and within which limits.
 #[derive(Drop)]
 pub struct Config {
-    /// What a name server's configuration says too: where is listened, the limit of responses, cookies. It has no zones.
+    /// What a name server's configuration says too: where is listened, limits of responses and connections, cookies. It has no
+    /// zones.
     pub server: ServerConfig,
+    /// The networks whose clients need a good cookie over UDP.
+    pub required: Vec<Prefix>,
     /// How many replies the cache keeps, where it is said.
     pub cache: Option<usize>,
     pub limits: Limits,
@@ -39,7 +43,7 @@ struct Keys {
     cache: Option<usize>,
     #[serde(default)]
     limits: Limits,
-    cookies: Option<Cookies>,
+    cookies: Option<CookieKeys>,
     #[serde(default)]
     upstream: Vec<UpstreamEntry>,
 }
@@ -53,8 +57,8 @@ fn server_of(
 ) -> ServerConfig
     ensures listen { result.listen ≡ listen }
     ensures zones { result.zone.items ≡ [] }
-    ensures limits { result.limits ≡ response_limit limits.now }
-    ensures timeouts { result.timeouts ≡ no_timeouts }
+    ensures limits { result.limits ≡ client_limits limits.now }
+    ensures timeouts { result.timeouts ≡ client_timeouts limits.now }
     ensures cookies { result.cookies ≡ cookies }
 {
     ServerConfig {
@@ -63,13 +67,8 @@ fn server_of(
         workers: None,
         nsid: None,
         allow_transfer: Vec::new(alloc),
-        limits: limits.of_responses(),
-        timeouts: Timeouts {
-            idle: None,
-            write: None,
-            window: None,
-            datagram_write: None,
-        },
+        limits: limits.of_clients(),
+        timeouts: limits.times_of_clients(),
         cookies,
         zone: Vec::new(alloc),
     }
@@ -92,8 +91,8 @@ pub fn read_config(alloc: Global, text: &str) -> Result<Config, ConfigError>
     ensures ok { IfOk result (λ _. IsSome (parse_document text.now)) }
     ensures listens { IfOk result (λ c. c.server.listen.items ≢ []) }
     ensures zones { IfOk result (λ c. c.server.zone.items ≡ []) }
-    ensures limits { IfOk result (λ c. c.server.limits ≡ response_limit c.limits) }
-    ensures timeouts { IfOk result (λ c. c.server.timeouts ≡ no_timeouts) }
+    ensures limits { IfOk result (λ c. c.server.limits ≡ client_limits c.limits) }
+    ensures timeouts { IfOk result (λ c. c.server.timeouts ≡ client_timeouts c.limits) }
 {
     let keys: Keys = match toml::from_str(alloc, text) {
         Ok(keys) => keys,
@@ -109,9 +108,11 @@ pub fn read_config(alloc: Global, text: &str) -> Result<Config, ConfigError>
     if listen.is_empty() {
         return Err(ConfigError::NoAddress);
     }
+    let (cookies, required) = cookies_of(alloc, cookies);
     let server = server_of(alloc, listen, &limits, cookies);
     Ok(Config {
         server,
+        required,
         cache,
         limits,
         upstream,

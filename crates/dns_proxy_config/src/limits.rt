@@ -1,9 +1,10 @@
 //! Limits of a proxy.
 
 ghost use Rattle.std.specs.Prelude.{◌≡◌};
-ghost use Rattle.dns_proxy_config.specs.Proxies.{queries_of, response_limit, upstream_of};
+ghost use Rattle.dns_proxy_config.specs.Proxies.{client_limits, client_timeouts, queries_of, upstream_of, when_full_of};
 
-use dns_config::{Endpoint, Limits as ServerLimits};
+use crate::when_full::WhenFull;
+use dns_config::{Endpoint, Limits as ServerLimits, Timeouts};
 use dns_lookup::UpstreamConfig;
 use serde::Deserialize;
 
@@ -22,8 +23,16 @@ const QUERIES: usize = 1000;
 pub struct Limits {
     /// The largest response over UDP.
     pub response_size: Option<u16>,
+    /// How many connections of clients there may be at once.
+    pub connections: Option<usize>,
+    /// How many requests of a connection may wait for their responses at once.
+    pub requests: Option<usize>,
+    /// For how many milliseconds a connection may be idle.
+    pub idle: Option<u64>,
     /// How many queries may be asked of upstreams at once.
     pub queries: Option<usize>,
+    /// What is done with one query more.
+    pub when_full: Option<WhenFull>,
     /// How often a server is sent a query, at most.
     pub tries: Option<u8>,
     /// After how many milliseconds without an answer it is sent again.
@@ -32,15 +41,37 @@ pub struct Limits {
 
 impl Limits {
     /// Those that a name server has too.
-    pub(crate) fn of_responses(&self) -> ServerLimits
-        ensures { result ≡ response_limit self.now }
+    pub(crate) fn of_clients(&self) -> ServerLimits
+        ensures { result ≡ client_limits self.now }
     {
         ServerLimits {
             response_size: self.response_size,
-            connections: None,
+            connections: self.connections,
             turn_away: None,
-            queued_responses: None,
+            queued_responses: self.requests,
             responses: None,
+        }
+    }
+
+    /// The times that a name server has too.
+    pub(crate) fn times_of_clients(&self) -> Timeouts
+        ensures { result ≡ client_timeouts self.now }
+    {
+        Timeouts {
+            idle: self.idle,
+            write: None,
+            window: None,
+            datagram_write: None,
+        }
+    }
+
+    /// What is done with one query more than may be asked at once.
+    pub fn when_full(&self) -> WhenFull
+        ensures { result ≡ when_full_of self.now }
+    {
+        match self.when_full {
+            Some(when_full) => when_full,
+            None => WhenFull::Fail,
         }
     }
 

@@ -5,12 +5,13 @@ use crate::connection::Got;
 use crate::forwarder::{BATCH, Forwarder, first_octets};
 use crate::place::Place;
 use crate::port::{Port, open_at_random};
+use crate::token::Source;
 use dns_message::{MessageRef, Question};
 use dns_name::{Octets, OutOfMemory};
 use dns_outside::Clock;
 use dns_proxy::{LookupEvent, QueryOutcome};
+use mio::Interest;
 use mio::net::UdpSocket;
-use mio::{Interest, Token};
 use std::alloc::Global;
 use std::net::{Net, SocketAddr};
 use std::random::RandomSource;
@@ -106,7 +107,7 @@ impl<R: Net + rt::Clock + RandomSource + Copy> Forwarder<R> {
     /// A socket for a server at a random port, which is listened to under the number of a port. None where none can be opened.
     fn open_socket(&mut self, number: usize, server: SocketAddr) -> Option<UdpSocket> {
         let mut socket = open_at_random(&self.machine, &mut self.rng, server)?;
-        let token = Token(self.token_of(number));
+        let token = self.clients.token_of(Source::Socket(number));
         let registry = self.poll.registry();
         match registry.register(&mut socket, token, Interest::READABLE) {
             Ok(()) => Some(socket),
@@ -219,7 +220,7 @@ impl<R: Net + rt::Clock + RandomSource + Copy> Forwarder<R> {
 
     /// What is still there at a port is told again.
     fn hear_on(&mut self, number: usize) {
-        let token = Token(self.token_of(number));
+        let token = self.clients.token_of(Source::Socket(number));
         if let Some(Some(port)) = self.ports.get_mut(number) {
             port.hear_on(self.poll.registry(), token);
         }
@@ -259,6 +260,7 @@ impl<R: Net + rt::Clock + RandomSource + Copy> Forwarder<R> {
         for place in places {
             self.step(place, event);
         }
+        self.begin_waiting();
     }
 
     /// Ticks each place at which one is due.
@@ -266,24 +268,17 @@ impl<R: Net + rt::Clock + RandomSource + Copy> Forwarder<R> {
         let (at, _) = self.clock.latest();
         for place in 0..self.places.len() {
             if self.is_due(place, at) {
-                self.ask_again(place, at);
                 self.step(place, &LookupEvent::Tick { at });
             }
         }
+        self.begin_waiting();
     }
 
     /// Whether a tick of a place is due.
     fn is_due(&self, place: usize, at: u64) -> bool {
-        match self.places.get(place) {
-            Some(Some(asked)) => asked.due <= at,
-            _ => false,
-        }
-    }
-
-    /// The server of a place is asked again at a moment.
-    fn ask_again(&mut self, place: usize, at: u64) {
-        if let Some(Some(asked)) = self.places.get_mut(place) {
-            asked.ask_again(at);
+        match self.proxy.deadline(place) {
+            Some(due) => due <= at,
+            None => false,
         }
     }
 
@@ -322,9 +317,7 @@ impl<R: Net + rt::Clock + RandomSource + Copy> Forwarder<R> {
         let Some(number) = self.port_of(place) else {
             return;
         };
-        let (at, _) = self.clock.latest();
-        self.ask_again(place, at);
-        let token = Token(self.token_of(number).saturating_add(1));
+        let token = self.clients.token_of(Source::Upstream(number));
         if let Some(Some(port)) = self.ports.get_mut(number) {
             let registry = self.poll.registry();
             port.connect(&self.machine, self.alloc, registry, token, octets);

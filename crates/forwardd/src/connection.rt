@@ -1,4 +1,4 @@
-//! A connection to an upstream, over which one query is asked again.
+//! Connections: to an upstream, over which one query is asked again; and of a client.
 
 use dns_framing::Framer;
 use dns_name::Octets;
@@ -43,8 +43,28 @@ fn is_again(error: &io::Error) -> bool {
 }
 
 impl Connection {
-    /// A connection to a server that is being opened, on which a message is to be written behind its length (RFC 1035, section
-    /// 4.2.2).
+    /// A connection over a stream.
+    fn over(alloc: Global, stream: TcpStream) -> Connection {
+        Connection {
+            stream,
+            unwritten: Vec::new(alloc),
+            framer: Framer::new(alloc),
+        }
+    }
+
+    /// A connection that was accepted, which is told under a token.
+    pub(crate) fn accepted(
+        alloc: Global,
+        registry: &Registry,
+        token: Token,
+        stream: TcpStream,
+    ) -> io::Result<Connection> {
+        let mut stream = stream;
+        registry.register(&mut stream, token, Interest::READABLE | Interest::WRITABLE)?;
+        Ok(Connection::over(alloc, stream))
+    }
+
+    /// A connection to a server that is being opened, on which a message is to be written.
     pub(crate) fn open<N: Net>(
         net: &N,
         alloc: Global,
@@ -53,24 +73,35 @@ impl Connection {
         server: SocketAddr,
         message: &Octets,
     ) -> io::Result<Connection> {
+        let stream = TcpStream::connect(net, server)?;
+        let mut connection = Connection::accepted(alloc, registry, token, stream)?;
+        connection.queue(message)?;
+        Ok(connection)
+    }
+
+    /// The stream.
+    pub(crate) fn stream(&mut self) -> &mut TcpStream {
+        &mut self.stream
+    }
+
+    /// How many octets are still to be written.
+    pub(crate) fn unwritten(&self) -> usize {
+        self.unwritten.len()
+    }
+
+    /// A message is to be written, behind its length (RFC 1035, section 4.2.2). Where this is refused the connection isn't to be used.
+    pub(crate) fn queue(&mut self, message: &Octets) -> io::Result<()> {
         let octets = message.as_slice();
         let Ok(length) = u16::try_from(octets.len()) else {
             return Err(io::Error::from(ErrorKind::InvalidInput));
         };
-        let mut unwritten = Vec::new(alloc);
-        unwritten.extend_from_slice(&length.to_be_bytes())?;
-        unwritten.extend_from_slice(octets)?;
-        let mut stream = TcpStream::connect(net, server)?;
-        registry.register(&mut stream, token, Interest::READABLE | Interest::WRITABLE)?;
-        Ok(Connection {
-            stream,
-            unwritten,
-            framer: Framer::new(alloc),
-        })
+        self.unwritten.extend_from_slice(&length.to_be_bytes())?;
+        self.unwritten.extend_from_slice(octets)?;
+        Ok(())
     }
 
     /// Writes what is still to be written, as far as there is room.
-    fn write(&mut self, alloc: Global) -> io::Result<()> {
+    pub(crate) fn write(&mut self, alloc: Global) -> io::Result<()> {
         if self.unwritten.is_empty() {
             return Ok(());
         }
@@ -86,7 +117,7 @@ impl Connection {
     }
 
     /// Reads what came, until the first whole message.
-    fn read(&mut self, alloc: Global) -> io::Result<Got> {
+    pub(crate) fn read(&mut self, alloc: Global) -> io::Result<Got> {
         let mut piece = [0u8; PIECE];
         for _ in 0..READS {
             match self.framer.next(alloc) {

@@ -4,20 +4,24 @@ ghost use Rattle.std.specs.Prelude.{◌≡◌, take};
 
 use crate::address::from_std;
 use crate::asking::question_of;
+use crate::client::Client;
+use crate::clients::{Clients, Waiting};
+use crate::connections::{ConnectionLimits, sooner};
 use crate::listener::bind_all;
-use crate::load::upstreams_of;
-use crate::place::{Client, Drawn, Place};
+use crate::load::{networks, upstreams_of};
+use crate::place::{Drawn, Place};
 use crate::port::Port;
+use crate::token::Source;
 use dns_cache::Cache;
 use dns_fronts::{CachedFront, LayeredFront};
 use dns_name::{Octets, OutOfMemory};
 use dns_outside::{Clock, HostClock};
 use dns_outstanding::Outstanding;
-use dns_proxy::{ClientDatagram, Proxy, Started};
-use dns_proxy_config::Config;
-use dns_upstreams::{Seed, Upstreams};
-use mio::net::UdpSocket;
-use mio::{Events, Interest, Poll, Token};
+use dns_proxy::{ClientMessage, ClientTransport, Proxy, Started};
+use dns_proxy_config::{Config, WhenFull};
+use dns_service::StreamConfig;
+use dns_upstreams::{Seed, UpstreamConfig, Upstreams};
+use mio::{Events, Poll, Token};
 use rand::rngs::StdRng;
 use rand::{RngExt, make_rng};
 use std::alloc::Global;
@@ -33,24 +37,13 @@ pub(crate) const BATCH: u32 = 64;
 /// The largest datagram.
 const DATAGRAM: usize = 65_535;
 
-/// What a token stands for.
-#[derive(Clone, Copy)]
-enum Source {
-    /// The socket of a listener.
-    Listener(usize),
-    /// The socket of a port.
-    Socket(usize),
-    /// The connection of a port.
-    Connection(usize),
-}
-
 /// A proxy, the sockets of its clients and its upstreams.
 #[derive(Drop)]
 pub(crate) struct Forwarder<R> {
     pub(crate) machine: R,
     pub(crate) alloc: Global,
     pub(crate) poll: Poll,
-    listeners: Vec<UdpSocket>,
+    pub(crate) clients: Clients,
     upstreams: Upstreams,
     pub(crate) proxy: Proxy<CachedFront>,
     pub(crate) places: Vec<Option<Place>>,
@@ -59,14 +52,6 @@ pub(crate) struct Forwarder<R> {
     pub(crate) clock: HostClock<R>,
     pub(crate) rng: StdRng,
     pub(crate) buffer: Vec<u8>,
-}
-
-/// The sooner of two moments, of which the first may not be there.
-fn sooner(first: Option<u64>, due: u64) -> u64 {
-    match first {
-        Some(first) => first.min(due),
-        None => due,
-    }
 }
 
 /// The proxy of a configuration.
@@ -78,7 +63,8 @@ fn proxy_of(
     let settings = config.server.settings(alloc)?;
     let dgram = settings.dgram;
     let cache = Cache::new_with_seed(alloc, config.replies(), seed)?;
-    let front = CachedFront::new(LayeredFront::new(settings), cache);
+    let required = networks(alloc, config.required.as_slice())?;
+    let front = CachedFront::new(LayeredFront::new(settings, required), cache);
     Ok(Proxy::new(alloc, front, dgram, config.limits.queries()))
 }
 
@@ -92,11 +78,29 @@ pub(crate) fn first_octets(octets: &[u8], count: usize) -> &[u8]
     }
 }
 
-/// The sockets at which clients are listened to, and what waits for all sockets.
+/// How many connections there may be, and how many requests of each.
+fn connection_limits(stream: &StreamConfig) -> ConnectionLimits {
+    let connection = stream.connection_config();
+    ConnectionLimits {
+        connections: stream.max_concurrent_connections(),
+        requests: connection.max_queued_responses(),
+        idle: connection.idle_timeout(),
+    }
+}
+
+/// How many messages may wait.
+fn most_waiting(config: &Config) -> usize {
+    match config.limits.when_full() {
+        WhenFull::Fail => 0,
+        WhenFull::Wait => config.limits.queries(),
+    }
+}
+
+/// The clients, and what waits for all sockets.
 #[derive(Drop)]
 struct Sockets {
     poll: Poll,
-    listeners: Vec<UdpSocket>,
+    clients: Clients,
 }
 
 impl Sockets {
@@ -105,7 +109,10 @@ impl Sockets {
         let poll = Poll::new(net)?;
         let endpoints = config.server.listen.as_slice();
         let listeners = bind_all(net, rt, poll.registry(), endpoints)?;
-        Ok(Sockets { poll, listeners })
+        let settings = config.server.settings(rt.alloc())?;
+        let limits = connection_limits(&settings.stream);
+        let clients = Clients::new(rt.alloc(), listeners, limits, most_waiting(config));
+        Ok(Sockets { poll, clients })
     }
 }
 
@@ -151,13 +158,13 @@ impl<R: Net + rt::Clock + RandomSource + Copy> Forwarder<R> {
         rng: StdRng,
         buffer: Vec<u8>,
     ) -> Forwarder<R> {
-        let Sockets { poll, listeners } = sockets;
+        let Sockets { poll, clients } = sockets;
         let Core { upstreams, proxy } = core;
         Forwarder {
             machine: *machine,
             alloc,
             poll,
-            listeners,
+            clients,
             upstreams,
             proxy,
             places: Vec::new(alloc),
@@ -169,48 +176,36 @@ impl<R: Net + rt::Clock + RandomSource + Copy> Forwarder<R> {
         }
     }
 
-    /// What a token stands for.
-    fn source_of(&self, token: Token) -> Source {
-        let count = self.listeners.len();
-        if token.0 < count {
-            return Source::Listener(token.0);
-        }
-        let number = token.0 - count;
-        if number % 2 == 0 {
-            return Source::Socket(number / 2);
-        }
-        Source::Connection(number / 2)
-    }
-
-    /// The token of a port's socket; that of its connection is the next one.
-    pub(crate) fn token_of(&self, port: usize) -> usize {
-        port.saturating_mul(2).saturating_add(self.listeners.len())
-    }
-
     /// Waits for what comes next, and takes it.
     pub(crate) fn turn(&mut self, events: &mut Events) -> anyhow::Result<()> {
         let wait = self.wait();
         self.poll.poll(events, wait)?;
         self.clock.outdate();
         for event in events.iter() {
-            match self.source_of(event.token()) {
-                Source::Listener(number) => self.take_datagrams(number),
-                Source::Socket(port) => self.take_answers(port),
-                Source::Connection(port) => self.go_on(port),
-            }
+            self.take(event.token());
         }
         self.tick_all();
+        self.close_idle();
         Ok(())
+    }
+
+    /// Takes what came where a token stands for.
+    fn take(&mut self, token: Token) {
+        match self.clients.source_of(token) {
+            Source::Datagrams(listener) => self.take_datagrams(listener),
+            Source::Connections(listener) => self.take_connections(listener),
+            Source::Socket(port) => self.take_answers(port),
+            Source::Upstream(port) => self.go_on(port),
+            Source::Client(number) => self.take_requests(number),
+        }
     }
 
     /// How long nothing is due.
     fn wait(&mut self) -> Option<Duration> {
         let (at, _) = self.clock.latest();
-        let mut first = None;
-        for place in self.places.iter() {
-            if let Some(asked) = place {
-                first = Some(sooner(first, asked.due));
-            }
+        let mut first = self.clients.due();
+        for place in 0..self.places.len() {
+            first = sooner(first, self.proxy.deadline(place));
         }
         match first {
             Some(due) => Some(Duration::from_millis(due.saturating_sub(at))),
@@ -220,56 +215,142 @@ impl<R: Net + rt::Clock + RandomSource + Copy> Forwarder<R> {
 
     // ---- clients
 
-    /// Takes the datagrams of clients that came at a listener.
+    /// Takes the datagrams of clients that came at a listener. Without memory one is lost, as it may be on its way.
     fn take_datagrams(&mut self, listener: usize) {
         for _ in 0..BATCH {
-            let Some(socket) = self.listeners.get(listener) else {
+            let buffer = self.buffer.as_mut_slice();
+            let Some((client, count)) = self.clients.receive(listener, buffer) else {
                 return;
             };
-            let Ok((count, addr)) = socket.recv_from(self.buffer.as_mut_slice()) else {
+            let datagram = first_octets(self.buffer.as_slice(), count);
+            if let Ok(octets) = Octets::from_slice(self.alloc, datagram) {
+                self.begin(client, octets);
+            }
+        }
+        self.clients.receive_on(self.poll.registry(), listener);
+    }
+
+    /// Takes the connections of clients that came at a listener.
+    fn take_connections(&mut self, listener: usize) {
+        let (at, _) = self.clock.latest();
+        for _ in 0..BATCH {
+            if !self.clients.accept(self.poll.registry(), listener, at) {
+                return;
+            }
+        }
+        self.clients.accept_on(self.poll.registry(), listener);
+    }
+
+    /// Takes the requests that came over the connection of a client.
+    fn take_requests(&mut self, number: usize) {
+        let (at, _) = self.clock.latest();
+        for _ in 0..BATCH {
+            let Some((client, octets)) = self.clients.next(number, at) else {
                 return;
             };
-            let client = Client { listener, addr };
-            // Without memory the datagram is lost, as it may be on its way.
-            let _ = self.begin(client, count);
+            self.begin(client, octets);
         }
-        self.listen_on(listener);
+        self.clients.read_on(self.poll.registry(), number);
     }
 
-    /// What is still there at a listener is told again.
-    fn listen_on(&mut self, listener: usize) {
-        if let Some(socket) = self.listeners.get_mut(listener) {
-            let registry = self.poll.registry();
-            let _ = registry.reregister(socket, Token(listener), Interest::READABLE);
+    /// Closes the connections of clients that were idle for too long.
+    fn close_idle(&mut self) {
+        let (at, _) = self.clock.latest();
+        self.clients.close_idle(at);
+    }
+
+    // ---- messages
+
+    /// Begins with a client's message, which waits behind the others where it is to. Without memory its client is sent nothing.
+    fn begin(&mut self, client: Client, octets: Octets) {
+        match self.begun(client, octets) {
+            Ok(None) => {}
+            Ok(Some(octets)) => {
+                if self.clients.wait_last(client, octets).is_err() {
+                    self.reply(client, None);
+                }
+            }
+            Err(_) => self.reply(client, None),
         }
     }
 
-    /// Begins with a client's datagram, which has so many octets of the buffer.
-    fn begin(&mut self, client: Client, count: usize) -> Result<(), OutOfMemory> {
-        let datagram = first_octets(self.buffer.as_slice(), count);
-        let octets = Octets::from_slice(self.alloc, datagram)?;
+    /// Begins with the messages that wait, as far as there is room.
+    pub(crate) fn begin_waiting(&mut self) {
+        for _ in 0..BATCH {
+            let Some(Waiting { client, octets }) = self.clients.next_waiting() else {
+                return;
+            };
+            match self.begun(client, octets) {
+                Ok(None) => {}
+                Ok(Some(octets)) => {
+                    if self.clients.wait_first(client, octets).is_err() {
+                        self.reply(client, None);
+                    }
+                    return;
+                }
+                Err(_) => self.reply(client, None),
+            }
+        }
+    }
+
+    /// Begins with a client's message, and gives it back where it is to wait. Nothing is sent for one that is no query.
+    fn begun(&mut self, client: Client, octets: Octets) -> Result<Option<Octets>, OutOfMemory> {
         let drawn = self.drawn_for(octets.as_slice())?;
-        let Some(server) = self
+        match self
             .upstreams
             .asked_server(self.alloc, octets.as_slice(), drawn.number)?
-        else {
-            return Ok(());
-        };
+        {
+            Some(server) => self.start(client, server, drawn, octets),
+            None => {
+                self.reply(client, None);
+                Ok(None)
+            }
+        }
+    }
+
+    /// A client's message, as the core takes it.
+    fn came(&mut self, client: Client, octets: Octets) -> ClientMessage {
         let (at, secs) = self.clock.latest();
-        let came = ClientDatagram {
+        let (addr, transport) = match client {
+            Client::Datagram { addr, .. } => (addr, ClientTransport::Datagram),
+            Client::Connection { addr, .. } => {
+                let idle_timeout = self.clients.idle_timeout();
+                (addr, ClientTransport::Connection { idle_timeout })
+            }
+        };
+        ClientMessage {
             client: 0,
-            addr: from_std(client.addr),
+            addr: from_std(addr),
+            transport,
             at,
             secs,
             octets,
-        };
-        match self.proxy.begin(self.alloc, &came, server, drawn.id)? {
+        }
+    }
+
+    /// Starts with a client's message, for which a server is asked, and gives it back where it is to wait.
+    fn start(
+        &mut self,
+        client: Client,
+        server: UpstreamConfig,
+        drawn: Drawn,
+        octets: Octets,
+    ) -> Result<Option<Octets>, OutOfMemory> {
+        let came = self.came(client, octets);
+        let when_full = self.clients.when_full();
+        match self
+            .proxy
+            .begin(self.alloc, &came, server, drawn.id, when_full)?
+        {
             Started::Sent(octets) => self.reply(client, octets),
+            Started::Short => self.reply(client, None),
+            Started::Full => return Ok(Some(came.octets)),
             Started::Asks { place, octets } => {
-                self.ask(place, Place::new(client, server, drawn, at), octets)?
+                // What can't be sent for want of memory is lost, as it may be on its way.
+                let _ = self.ask(place, Place::new(client, server, drawn), octets);
             }
         }
-        Ok(())
+        Ok(None)
     }
 
     /// What was drawn for a datagram's question where it is asked already, so that an equal message may be joined to it; or else what is
@@ -288,10 +369,9 @@ impl<R: Net + rt::Clock + RandomSource + Copy> Forwarder<R> {
         })
     }
 
-    /// Sends a client what it is sent, if it is sent something. A datagram for which there is no room is lost.
-    pub(crate) fn reply(&self, client: Client, octets: Option<Octets>) {
-        if let (Some(octets), Some(socket)) = (octets, self.listeners.get(client.listener)) {
-            let _ = socket.send_to(octets.as_slice(), client.addr);
-        }
+    /// Sends a client what it is sent, if it is sent something.
+    pub(crate) fn reply(&mut self, client: Client, octets: Option<Octets>) {
+        let (at, _) = self.clock.latest();
+        self.clients.reply(self.poll.registry(), client, octets, at);
     }
 }

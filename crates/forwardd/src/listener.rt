@@ -1,22 +1,40 @@
 //! Sockets at which clients are listened to.
 
 use crate::address::to_std;
+use crate::token::{Source, token_of};
 use anyhow::Context;
 use dns_config::Endpoint;
-use mio::net::UdpSocket;
-use mio::{Interest, Registry, Token};
+use mio::net::{TcpListener, UdpSocket};
+use mio::{Interest, Registry};
 use std::net::{Net, SocketAddr};
 
-/// Opens the socket of an address and registers it under a number.
+/// The sockets of an address: for datagrams, and for connections.
+#[derive(Drop)]
+pub(crate) struct Listener {
+    pub(crate) datagrams: UdpSocket,
+    pub(crate) connections: TcpListener,
+}
+
+/// Opens the sockets of an address, and registers them under a number of so many.
 fn bind<N: Net>(
     net: &N,
     registry: &Registry,
+    count: usize,
     number: usize,
     addr: SocketAddr,
-) -> anyhow::Result<UdpSocket> {
-    let mut socket = UdpSocket::bind(net, addr).context(format_args!("listening on {addr}"))?;
-    registry.register(&mut socket, Token(number), Interest::READABLE)?;
-    Ok(socket)
+) -> anyhow::Result<Listener> {
+    let mut datagrams = UdpSocket::bind(net, addr).context(format_args!("listening on {addr}"))?;
+    let mut connections = TcpListener::bind(net, addr).context(format_args!(
+        "listening on {addr} for connections"
+    ))?;
+    let token = token_of(count, Source::Datagrams(number));
+    registry.register(&mut datagrams, token, Interest::READABLE)?;
+    let token = token_of(count, Source::Connections(number));
+    registry.register(&mut connections, token, Interest::READABLE)?;
+    Ok(Listener {
+        datagrams,
+        connections,
+    })
 }
 
 /// Opens the sockets of addresses, registers each under its number, and says where is listened.
@@ -25,12 +43,12 @@ pub(crate) fn bind_all<N: Net>(
     rt: &HostRuntime,
     registry: &Registry,
     endpoints: &[Endpoint],
-) -> anyhow::Result<Vec<UdpSocket>> {
+) -> anyhow::Result<Vec<Listener>> {
     let mut listeners = Vec::new(rt.alloc());
     for endpoint in endpoints {
         let addr = to_std(endpoint.address);
-        let socket = bind(net, registry, listeners.len(), addr)?;
-        listeners.push(socket)?;
+        let listener = bind(net, registry, endpoints.len(), listeners.len(), addr)?;
+        listeners.push(listener)?;
         println!(rt; "listening on {addr}")?;
     }
     Ok(listeners)

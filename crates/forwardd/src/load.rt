@@ -1,7 +1,12 @@
 //! The configuration that is read of a file.
 
+ghost use Rattle.std.specs.Prelude.{◌≡◌, IfOk, map};
+ghost use Rattle.forwardd.specs.Required.{network_of};
+
 use anyhow::{Context, bail};
-use dns_proxy_config::{Config, read_config};
+use dns_fronts::Network;
+use dns_name::OutOfMemory;
+use dns_proxy_config::{Config, Prefix, read_config};
 use dns_upstreams::{Seed, Upstreams};
 use std::alloc::{AllocError, Global};
 use std::fs;
@@ -45,4 +50,18 @@ pub(crate) fn upstreams_of(
         Ok(upstreams) => Ok(upstreams),
         Err(error) => bail!("{error}"),
     }
+}
+
+/// The networks of these prefixes.
+pub(crate) fn networks(alloc: Global, prefixes: &[Prefix]) -> Result<Vec<Network>, OutOfMemory>
+    ensures { IfOk result (λ networks. networks.items ≡ map network_of prefixes.now) }
+{
+    let networks = prefixes
+        .iter()
+        .map(|prefix| Network {
+            address: prefix.address,
+            bits: prefix.bits,
+        })
+        .collect(alloc)?;
+    Ok(networks)
 }

@@ -1,24 +1,30 @@
 //! A forwarding proxy: asks upstreams for its clients, behind the layers and a cache; or judges a configuration.
 //!
 //! - `words` has the words of the command line, `load` reads a configuration, `check` judges one.
-//! - `forwarder` has the sockets of clients, the core of dns_proxy and its front, and waits for what comes next. What comes
-//!   of a client is begun there.
+//! - `clients` has where clients are listened to (`listener`), their connections (`connections`, `client`), and their
+//!   messages that wait for room.
+//! - `forwarder` has the clients, the core of dns_proxy and its front, and waits for what comes next (`token` says where).
+//!   What comes of a client is begun there.
 //! - `asking` asks upstreams: each question from a port of its own that nobody can guess (`port`), equal messages from one
 //!   (`place`), and over a connection where an answer was truncated (`connection`).
-//! - `listener` opens the sockets of clients, `address` has addresses as sockets have them.
+//! - `address` has addresses as sockets have them.
 //!
 //! ```text
 //! client -> Forwarder::begin -> a reply of the layers or out of the cache
 //!                            -> ask -> a port, opened at random -> upstream
+//!                            -> waits for room, in turn
 //! upstream -> take_answers, go_on -> hear -> the core -> sent again, asked over a connection, or the client's reply
 //! ```
 //!
-//! Nothing is sent for a response. A datagram for which there is no room or no memory is lost, as it may be on its way.
+//! Nothing is sent for a response. A datagram for which there is no memory is lost, as it may be on its way. Over a
+//! connection requests are answered as their answers come (RFC 7766, section 6.2.1.1); it is read no more while as many of
+//! them wait for responses as may, and closed once it was idle for too long.
 //!
 //! # What is proved
 //!
 //! - Each function is safe, and returns but for those that wait.
 //! - The status of the program: 0 where all was done, 1 with a line that says the fault, 2 for faulty words.
+//! - When a connection has room for one request more, and when it was idle for too long (`Load`).
 //! - What a client is sent is up to dns_proxy, dns_fronts, dns_upstreams and dns_outstanding, which have clauses.
 //!
 //! # What a body could still get away with
@@ -32,12 +38,16 @@ ghost use Rattle.std.specs.Process.{exit_status};
 mod address;
 mod asking;
 mod check;
+mod client;
+mod clients;
 mod connection;
+mod connections;
 mod forwarder;
 mod listener;
 mod load;
 mod place;
 mod port;
+mod token;
 mod words;
 
 use crate::check::check;

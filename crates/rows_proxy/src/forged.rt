@@ -3,7 +3,9 @@
 use crate::made::{CLIENT, UPSTREAM, next_proxy};
 use dns_fronts::CachedFront;
 use dns_name::{Octets, SocketAddr};
-use dns_proxy::{ClientDatagram, LookupEvent, Proxy, QueryOutcome, Started};
+use dns_proxy::{
+    ClientMessage, ClientTransport, LookupEvent, Proxy, QueryOutcome, Started, WhenFull,
+};
 use dns_service::Settings;
 use rows_table::{Calls, Row, RowError};
 
@@ -28,7 +30,8 @@ impl Calls for Forged {
 fn count_taken(row: &mut Row<'_>) {
     let settings = Settings::new(row.alloc());
     let times: u64 = row.number();
-    match next_proxy(row, settings) {
+    let required = Vec::new(row.alloc());
+    match next_proxy(row, settings, required) {
         Ok(proxy) => {
             let mut proxy = proxy;
             if begun(row, &mut proxy) {
@@ -46,15 +49,16 @@ fn count_taken(row: &mut Row<'_>) {
 /// Whether an upstream is asked for the datagram of the next word.
 fn begun(row: &mut Row<'_>, proxy: &mut Proxy<CachedFront>) -> bool {
     let octets = Octets::from_vec(row.vector());
-    let came = ClientDatagram {
+    let came = ClientMessage {
         client: 1,
         addr: CLIENT,
+        transport: ClientTransport::Datagram,
         at: 0,
         secs: 0,
         octets,
     };
     matches!(
-        proxy.begin(row.alloc(), &came, UPSTREAM, ID),
+        proxy.begin(row.alloc(), &came, UPSTREAM, ID, WhenFull::Fail),
         Ok(Started::Asks { .. })
     )
 }

@@ -1,9 +1,11 @@
 //! Rows of proxies that steps are taken with.
 
-use crate::made::{CLIENT, UPSTREAM, next_cookies, next_proxy};
-use dns_fronts::CachedFront;
+use crate::made::{CLIENT, UPSTREAM, next_cookies, next_network, next_proxy, next_secret};
+use dns_fronts::{CachedFront, Network};
 use dns_name::{Octets, OutOfMemory, SocketAddr};
-use dns_proxy::{ClientDatagram, LookupEvent, Proxy, QueryOutcome, Started};
+use dns_proxy::{
+    ClientMessage, ClientTransport, LookupEvent, Proxy, QueryOutcome, Started, WhenFull,
+};
 use dns_service::Settings;
 use rows_table::{Calls, Row, RowError, Steps};
 
@@ -15,11 +17,18 @@ impl Calls for Proxies {
         match call {
             "proxy" => {
                 let settings = Settings::new(row.alloc());
-                step_all(row, settings)
+                let required = Vec::new(row.alloc());
+                step_all(row, settings, required)
             }
             "cookie_proxy" => {
                 let settings = next_cookies(row);
-                step_all(row, settings)
+                let required = Vec::new(row.alloc());
+                step_all(row, settings, required)
+            }
+            "network_proxy" => {
+                let settings = next_secret(row);
+                let required = next_network(row);
+                step_all(row, settings, required)
             }
             _ => return Err(RowError::NoSuchCall),
         }
@@ -27,9 +36,9 @@ impl Calls for Proxies {
     }
 }
 
-/// What a proxy of some settings leads to at steps.
-fn step_all(row: &mut Row<'_>, settings: Settings) {
-    match next_proxy(row, settings) {
+/// What a proxy of some settings and networks leads to at steps.
+fn step_all(row: &mut Row<'_>, settings: Settings, required: Vec<Network>) {
+    match next_proxy(row, settings, required) {
         Ok(proxy) => row.take_steps(";", &mut Stepped { proxy }),
         Err(fault) => row.fail(fault),
     }
@@ -42,11 +51,32 @@ struct Stepped {
 }
 
 impl Steps for Stepped {
-    /// A client's datagram, or an event of the query at a place: a datagram, a message over a connection, that it was lost, or
-    /// the time.
+    /// A client's message, in a datagram, which may wait where the proxy is full, or over a connection; an event of the query at a place:
+    /// a datagram, a message over a connection, that it was lost, or the time; or when a tick at a place is due.
     fn take_step(&mut self, step: &str, row: &mut Row<'_>) {
         match step {
-            "datagram" => began(row, &mut self.proxy),
+            "datagram" => {
+                began(
+                    row,
+                    &mut self.proxy,
+                    ClientTransport::Datagram,
+                    WhenFull::Fail,
+                )
+            }
+            "waiting" => {
+                began(
+                    row,
+                    &mut self.proxy,
+                    ClientTransport::Datagram,
+                    WhenFull::Wait,
+                )
+            }
+            "message" => {
+                let idle_timeout: u64 = row.number();
+                let transport = ClientTransport::Connection { idle_timeout };
+                began(row, &mut self.proxy, transport, WhenFull::Fail)
+            }
+            "due" => due(row, &self.proxy),
             _ => {
                 let place: usize = row.number();
                 match next_event(row, step) {
@@ -58,29 +88,46 @@ impl Steps for Stepped {
     }
 }
 
-/// How a datagram of a client starts, by the next words: the client's number, the moment, the seconds, the identifier for the
+/// How a message of a client starts, by the next words: the client's number, the moment, the seconds, the identifier for the
 /// upstream, and the octets.
-fn began(row: &mut Row<'_>, proxy: &mut Proxy<CachedFront>) {
+fn began(
+    row: &mut Row<'_>,
+    proxy: &mut Proxy<CachedFront>,
+    transport: ClientTransport,
+    when_full: WhenFull,
+) {
     let client: u64 = row.number();
     let at: u64 = row.number();
     let secs: u64 = row.number();
     let id: u16 = row.number();
     let octets = Octets::from_vec(row.vector());
-    let came = ClientDatagram {
+    let came = ClientMessage {
         client,
         addr: CLIENT,
+        transport,
         at,
         secs,
         octets,
     };
-    match proxy.begin(row.alloc(), &came, UPSTREAM, id) {
+    match proxy.begin(row.alloc(), &came, UPSTREAM, id, when_full) {
         Ok(Started::Sent(octets)) => sent(row, "sent", octets),
+        Ok(Started::Short) => row.say("short"),
+        Ok(Started::Full) => row.say("full"),
         Ok(Started::Asks { place, octets }) => {
             row.say("asks");
             row.show(&place);
             row.hexadecimal(octets.as_slice())
         }
         Err(_) => row.fail(RowError::OutOfMemory),
+    }
+}
+
+/// When a tick at the place of the next word is due.
+fn due(row: &mut Row<'_>, proxy: &Proxy<CachedFront>) {
+    let place: usize = row.number();
+    match proxy.deadline(place) {
+        Some(at) => row.show(&at),
+        None => row.say("never"),
     }
 }
 

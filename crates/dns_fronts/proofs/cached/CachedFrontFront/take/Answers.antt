@@ -9,29 +9,30 @@ use Rattle.dns_proxy.specs.Fronts.{IsTaken}
 use Rattle.dns_fronts.specs.Caching.{cached_asks, cached_over, looked_up}
 use Rattle.dns_fronts.specs.Layered.{asked_message, layered}
 use Rattle.dns_fronts.specs.Passed.{taken_unless}
+use Rattle.dns_fronts.specs.Required.{settings_for}
 use Rattle.dns_fronts.proofs.Cachings.{on-ok, own-behind, own-cached, passed-behind, passed-cached}
 use Rattle.dns_fronts.proofs.cached.CachedFrontFront.take.Goals as goal
 
 pub returns-in-Own-clause-taken : goal.returns-in-Own-clause-taken
 returns-in-Own-clause-taken c =
     let f = c.args.self.now in
-    let s = f.front.settings in
     let r = c.args.request.now in
+    let s = settings_for f.front r in
     own-cached s f.cache r c.in-Own.item (subst (λ (t : Taken WrapPost). IsTaken wrap_by (λ i. layered s i r) (asked_message s r) t) c.in-Own.is c.in_ok-taken.ensures.taken)
 
 pub returns-in-Own-clause-after : goal.returns-in-Own-clause-after
 returns-in-Own-clause-after c =
     let f = c.args.self.now in
-    let s = f.front.settings in
     let r = c.args.request.now in
+    let s = settings_for f.front r in
     let behind = own-behind s f.cache r c.in-Own.item (subst (λ (t : Taken WrapPost). IsTaken wrap_by (λ i. layered s i r) (asked_message s r) t) c.in-Own.is c.in_ok-taken.ensures.taken) in
     λ i. record { front = c.in_ok-taken.ensures.after i; cache = behind i }
 
 pub returns-in-Passed-clause-taken : goal.returns-in-Passed-clause-taken
 returns-in-Passed-clause-taken c =
     let f = c.args.self.now in
-    let s = f.front.settings in
     let r = c.args.request.now in
+    let s = settings_for f.front r in
     let taken = passed-cached s f.cache r c.in-Passed.rule c.in-Passed.message
     (subst (λ (t : Taken WrapPost). IsTaken wrap_by (λ i. layered s i r) (asked_message s r) t) c.in-Passed.is c.in_ok-taken.ensures.taken) in
     IfOk-weaker c.unless_young.result _ _ (λ t is.
@@ -41,8 +42,8 @@ returns-in-Passed-clause-taken c =
 pub returns-in-Passed-clause-after : goal.returns-in-Passed-clause-after
 returns-in-Passed-clause-after c =
     let f = c.args.self.now in
-    let s = f.front.settings in
     let r = c.args.request.now in
+    let s = settings_for f.front r in
     let behind = passed-behind s f.cache r c.in-Passed.rule c.in-Passed.message
     (subst (λ (t : Taken WrapPost). IsTaken wrap_by (λ i. layered s i r) (asked_message s r) t) c.in-Passed.is c.in_ok-taken.ensures.taken) in
     let kept = ap (λ (q : Req (Unit {0})). (looked_up f.cache q).behind) c.in_ok-taken.ensures.kept ∙ behind in

@@ -1,0 +1,184 @@
+//! The clients: where they are listened to, their connections, and their messages that wait.
+
+use crate::client::Client;
+use crate::connections::{ConnectionLimits, Connections};
+use crate::listener::Listener;
+use crate::token::{Source, token_of};
+use dns_name::{Octets, OutOfMemory};
+use dns_proxy::WhenFull;
+use mio::net::TcpStream;
+use mio::{Interest, Registry, Token};
+use std::alloc::Global;
+use std::collections::VecDeque;
+use std::net::SocketAddr;
+
+/// A message of a client that waits until there is room for it.
+#[derive(Drop)]
+pub(crate) struct Waiting {
+    pub(crate) client: Client,
+    pub(crate) octets: Octets,
+}
+
+/// The sockets at which clients are listened to, their connections, and their messages that wait, of which there may be so many.
+#[derive(Drop)]
+pub(crate) struct Clients {
+    listeners: Vec<Listener>,
+    connections: Connections,
+    waiting: VecDeque<Waiting>,
+    most_waiting: usize,
+}
+
+impl Clients {
+    /// At these listeners, without connections. So many messages may wait.
+    pub(crate) fn new(
+        alloc: Global,
+        listeners: Vec<Listener>,
+        limits: ConnectionLimits,
+        most_waiting: usize,
+    ) -> Clients {
+        Clients {
+            listeners,
+            connections: Connections::new(alloc, limits),
+            waiting: VecDeque::new(alloc),
+            most_waiting,
+        }
+    }
+
+    /// The token that stands for this.
+    pub(crate) fn token_of(&self, source: Source) -> Token {
+        token_of(self.listeners.len(), source)
+    }
+
+    /// What a token stands for.
+    pub(crate) fn source_of(&self, token: Token) -> Source {
+        crate::token::source_of(self.listeners.len(), token)
+    }
+
+    /// For how many ms a connection may be idle.
+    pub(crate) fn idle_timeout(&self) -> u64 {
+        self.connections.limits.idle
+    }
+
+    // ---- datagrams
+
+    /// Takes a datagram that came at a listener, if there is one: its client, and how many octets of the buffer it has.
+    pub(crate) fn receive(&self, listener: usize, buffer: &mut [u8]) -> Option<(Client, usize)> {
+        let kept = self.listeners.get(listener)?;
+        match kept.datagrams.recv_from(buffer) {
+            Ok((count, addr)) => Some((Client::Datagram { listener, addr }, count)),
+            Err(_) => None,
+        }
+    }
+
+    /// What is still there at a listener is told again.
+    pub(crate) fn receive_on(&mut self, registry: &Registry, listener: usize) {
+        let token = self.token_of(Source::Datagrams(listener));
+        if let Some(kept) = self.listeners.get_mut(listener) {
+            let _ = registry.reregister(&mut kept.datagrams, token, Interest::READABLE);
+        }
+    }
+
+    // ---- connections
+
+    /// A connection that came at a listener, if there is one.
+    fn accepted(&self, listener: usize) -> Option<(TcpStream, SocketAddr)> {
+        let kept = self.listeners.get(listener)?;
+        kept.connections.accept().ok()
+    }
+
+    /// Takes a connection that came at a listener at a moment, if there is one. Where there may be no more, it is closed at once.
+    pub(crate) fn accept(&mut self, registry: &Registry, listener: usize, at: u64) -> bool {
+        let Some((stream, addr)) = self.accepted(listener) else {
+            return false;
+        };
+        if let Some(number) = self.connections.free_number() {
+            let token = self.token_of(Source::Client(number));
+            self.connections
+                .keep(registry, token, number, stream, addr, at);
+        }
+        true
+    }
+
+    /// What is still there at a listener is told again.
+    pub(crate) fn accept_on(&mut self, registry: &Registry, listener: usize) {
+        let token = self.token_of(Source::Connections(listener));
+        if let Some(kept) = self.listeners.get_mut(listener) {
+            let _ = registry.reregister(&mut kept.connections, token, Interest::READABLE);
+        }
+    }
+
+    /// The next request of the connection of a number.
+    pub(crate) fn next(&mut self, number: usize, at: u64) -> Option<(Client, Octets)> {
+        self.connections.next(number, at)
+    }
+
+    /// The connection of a number is told again.
+    pub(crate) fn read_on(&mut self, registry: &Registry, number: usize) {
+        let token = self.token_of(Source::Client(number));
+        self.connections.read_on(registry, token, number)
+    }
+
+    /// The first moment at which a connection was idle for too long.
+    pub(crate) fn due(&self) -> Option<u64> {
+        self.connections.due()
+    }
+
+    /// Closes each connection that was idle for too long.
+    pub(crate) fn close_idle(&mut self, at: u64) {
+        self.connections.close_idle(at)
+    }
+
+    // ---- what clients are sent
+
+    /// Sends a client what it is sent at a moment, if it is sent something. A datagram for which there is no room is lost.
+    pub(crate) fn reply(
+        &mut self,
+        registry: &Registry,
+        client: Client,
+        octets: Option<Octets>,
+        at: u64,
+    ) {
+        match client {
+            Client::Datagram { listener, addr } => self.send(listener, addr, octets),
+            Client::Connection { number, serial, .. } => {
+                let token = self.token_of(Source::Client(number));
+                self.connections
+                    .reply(registry, token, number, serial, octets, at)
+            }
+        }
+    }
+
+    /// Sends a datagram to an address, if there is one.
+    fn send(&self, listener: usize, addr: SocketAddr, octets: Option<Octets>) {
+        if let (Some(octets), Some(kept)) = (octets, self.listeners.get(listener)) {
+            let _ = kept.datagrams.send_to(octets.as_slice(), addr);
+        }
+    }
+
+    // ---- what waits
+
+    /// What is done with one query more than there may be: it waits while there is room for what waits.
+    pub(crate) fn when_full(&self) -> WhenFull {
+        if self.waiting.len() < self.most_waiting {
+            return WhenFull::Wait;
+        }
+        WhenFull::Fail
+    }
+
+    /// A client's message waits behind the others.
+    pub(crate) fn wait_last(&mut self, client: Client, octets: Octets) -> Result<(), OutOfMemory> {
+        self.waiting.push_back(Waiting { client, octets })?;
+        Ok(())
+    }
+
+    /// It waits before the others.
+    pub(crate) fn wait_first(&mut self, client: Client, octets: Octets) -> Result<(), OutOfMemory> {
+        self.waiting.push_front(Waiting { client, octets })?;
+        Ok(())
+    }
+
+    /// Takes the message that waits first.
+    pub(crate) fn next_waiting(&mut self) -> Option<Waiting> {
+        self.waiting.pop_front()
+    }
+}

@@ -1,0 +1,52 @@
+//! What tokens stand for.
+
+use mio::Token;
+
+/// What a token stands for.
+#[derive(Clone, Copy)]
+pub(crate) enum Source {
+    /// The socket of a listener for datagrams.
+    Datagrams(usize),
+    /// The one for connections.
+    Connections(usize),
+    /// The socket of a port.
+    Socket(usize),
+    /// The connection of a port.
+    Upstream(usize),
+    /// The connection of a client.
+    Client(usize),
+}
+
+/// What a token stands for, where there are so many listeners.
+pub(crate) fn source_of(listeners: usize, token: Token) -> Source {
+    if token.0 < listeners {
+        return Source::Datagrams(token.0);
+    }
+    let number = token.0 - listeners;
+    if number < listeners {
+        return Source::Connections(number);
+    }
+    let number = number - listeners;
+    match number % 3 {
+        0 => Source::Socket(number / 3),
+        1 => Source::Upstream(number / 3),
+        _ => Source::Client(number / 3),
+    }
+}
+
+/// The token that stands for this.
+pub(crate) fn token_of(listeners: usize, source: Source) -> Token {
+    let first = listeners.saturating_mul(2);
+    let number = match source {
+        Source::Datagrams(number) => number,
+        Source::Connections(number) => listeners.saturating_add(number),
+        Source::Socket(port) => first.saturating_add(port.saturating_mul(3)),
+        Source::Upstream(port) => first
+            .saturating_add(port.saturating_mul(3))
+            .saturating_add(1),
+        Source::Client(number) => first
+            .saturating_add(number.saturating_mul(3))
+            .saturating_add(2),
+    };
+    Token(number)
+}
