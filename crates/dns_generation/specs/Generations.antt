@@ -25,7 +25,9 @@ IsWritten apex text z = (z.apex ≡ apex) × (zone_file apex text ≡ Ok z.recor
 -- why a zone file isn't served: the line that is refused, or why its records are no zone
 abbrev pub HasFault : List (List ℕ) → List ℕ → ZoneFault → Type 0
 HasFault apex text (Line line reason) = zone_file apex text ≡ Err (line, reason)
-HasFault apex text (NotZone error) = (records : List Record) × (zone_file apex text ≡ Ok records) × Makes (tree_error apex records) (record { apex = apex; records = records }) (Err error)
+HasFault apex text (NotZone error) =
+    (records : List Record) × (zone_file apex text ≡ Ok records)
+    × Makes (tree_error apex records) (record { apex = apex; records = records }) (Err error)
 HasFault apex text OutOfMemory = Unit {0}
 
 -- what the first SOA record says of copies (RFC 1035, section 3.3.13)

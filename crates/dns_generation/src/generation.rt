@@ -40,7 +40,12 @@ impl Model for Generation {
 
     ghost Value = { GenerationState };
 
-    ghost view = { λ g. record { authority = g.authority; served = g.served.items; withheld = g.withheld.items; summaries = g.summaries.items } };
+    ghost view = { λ g. record {
+      authority = g.authority;
+      served = g.served.items;
+      withheld = g.withheld.items;
+      summaries = g.summaries.items;
+    } };
 }
 
 /// What the first SOA record of some records says of copies.
@@ -112,7 +117,12 @@ fn add_zone(
 impl Generation {
     /// A generation of no zone. A zone that has no networks of its own may be transferred to these.
     pub fn new(alloc: Global, allowed: Vec<Network>) -> Generation
-        ensures { result ≡ record { authority = record { zones = []; allowed = allowed.items }; served = []; withheld = []; summaries = [] } }
+        ensures { result ≡ record {
+          authority = record { zones = []; allowed = allowed.items };
+          served = [];
+          withheld = [];
+          summaries = [];
+        } }
     {
         Generation {
             authority: Authority::new(alloc, allowed),
@@ -212,7 +222,8 @@ impl Generation {
 
     /// What answers: the authority, behind the zones that have no data.
     pub fn into_service(self) -> Withholding<Authority>
-        ensures { ⟦<Withholding<Authority> as Service<()>>⟧.answer result ≡ withholding self.served self.withheld (authority_answer self.authority) }
+        ensures { ⟦<Withholding<Authority> as Service<()>>⟧.answer result
+            ≡ withholding self.served self.withheld (authority_answer self.authority) }
     {
         let Generation {
             authority,

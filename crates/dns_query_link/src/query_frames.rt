@@ -37,7 +37,9 @@ fn sift_first(
     octets: &[u8],
     waiting: &mut Vec<u8>,
 ) -> Result<Option<(usize, bool)>, OutOfMemory>
-    ensures { IfOk result (λ o. MatchOption o (HasNone octets.now waiting.old.items waiting.new.items) (λ p. IsSifted octets.now waiting.old.items waiting.new.items p.0)) }
+    ensures { IfOk result (λ o. MatchOption o
+        (HasNone octets.now waiting.old.items waiting.new.items)
+        (λ p. IsSifted octets.now waiting.old.items waiting.new.items p.0)) }
 {
     let Some((frame, size)) = first_of(alloc, octets)? else {
         return Ok(None);

@@ -207,12 +207,12 @@ fn outcome(alloc: Global, check: Check) -> anyhow::Result<Checked> {
 pub(crate) fn run(alloc: Global, check: Check) -> Result<Checked, String> {
     match outcome(alloc, check) {
         Ok(checked) => Ok(checked),
-        Err(fault) => Err(told(alloc, &fault)),
+        Err(fault) => Err(text_of(alloc, &fault)),
     }
 }
 
 /// A fault as text; nothing where there is no memory.
-fn told(alloc: Global, fault: &anyhow::Error) -> String {
+fn text_of(alloc: Global, fault: &anyhow::Error) -> String {
     match format!(in alloc; "{fault:#}") {
         Ok(text) => text,
         Err(_) => String::new(alloc),

@@ -2,6 +2,7 @@
 
 use crate::configuration::Shown;
 use anyhow::Context;
+use dns_config::Config;
 use dns_name::{IpAddr, OutOfMemory, SocketAddr};
 use dns_outside::{HostClock, MioAccept, MioSock};
 use dns_query_link::QueryAccept;
@@ -11,6 +12,7 @@ use std::alloc::Global;
 use std::net::Net;
 use std::rt::Clock;
 use std::sync::Arc;
+use std::thread::{Threads, available_parallelism};
 
 /// What serves the datagrams of a socket. Responses are dropped.
 pub(crate) type DgramWorker<R> = Worker<QuerySock<MioSock>, HostClock<R>, Silent>;
@@ -100,4 +102,37 @@ impl<R: Net + Clock + Copy> Listener<R> {
             workers,
         })
     }
+}
+
+/// How many processors there are, as far as that is known.
+fn processors<R: Threads>(machine: &R) -> usize {
+    match available_parallelism(machine) {
+        Ok(processors) => processors.get(),
+        Err(_) => 1,
+    }
+}
+
+/// Opens the sockets of each address.
+pub(crate) fn bind_all<R: Net + Clock + Threads + Copy>(
+    machine: R,
+    alloc: Global,
+    config: &Config,
+    counts: &Arc<QueryCounts>,
+) -> anyhow::Result<Vec<Listener<R>>> {
+    let workers = config.workers(processors(&machine));
+    let mut listeners = Vec::new(alloc);
+    for endpoint in config.listen.iter() {
+        let address = endpoint.address;
+        let listener = Listener::bind(machine, alloc, address, workers, counts)?;
+        listeners.push(listener)?;
+    }
+    Ok(listeners)
+}
+
+/// Says where is listened.
+pub(crate) fn say_listeners<R>(rt: &HostRuntime, listeners: &[Listener<R>]) -> anyhow::Result<()> {
+    for listener in listeners {
+        println!(rt; "listening on {}", Shown(listener.address))?;
+    }
+    Ok(())
 }

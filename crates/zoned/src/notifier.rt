@@ -25,7 +25,7 @@ const ANSWER_SIZE: usize = 1_232;
 
 /// A NOTIFY that wasn't answered yet.
 #[derive(Drop)]
-struct Telling {
+struct PendingNotify {
     apex: Name,
     to: SocketAddr,
     socket: UdpSocket,
@@ -68,9 +68,9 @@ fn asking_of(alloc: Global, apex: &Name, id: u16, now: u64) -> anyhow::Result<As
     }
 }
 
-/// What came of a look at a NOTIFY.
+/// How far a NOTIFY is.
 #[derive(Clone, Copy, PartialEq, Eq)]
-enum Told {
+enum NotifyState {
     /// An answer is waited for.
     Waiting,
     /// It was answered, with this response code.
@@ -79,7 +79,7 @@ enum Told {
     GaveUp,
 }
 
-impl Telling {
+impl PendingNotify {
     /// Tells an address of a zone.
     fn begin<R: Net + RandomSource>(
         machine: &R,
@@ -87,19 +87,19 @@ impl Telling {
         apex: &Name,
         to: SocketAddr,
         now: u64,
-    ) -> anyhow::Result<Telling> {
+    ) -> anyhow::Result<PendingNotify> {
         let id = identifier(machine)?;
         let asking = asking_of(alloc, apex, id, now)?;
         let apex = apex.try_clone(alloc)?;
         let socket = socket_for(machine, to)?;
-        let telling = Telling {
+        let notify = PendingNotify {
             apex,
             to,
             socket,
             asking,
         };
-        telling.send();
-        Ok(telling)
+        notify.send();
+        Ok(notify)
     }
 
     /// Sends it. One that can't be sent is as one that was lost.
@@ -130,17 +130,17 @@ impl Telling {
     }
 
     /// Looks whether it was answered, and sends it again where that is due.
-    fn look(&mut self, alloc: Global, now: u64) -> Result<Told, OutOfMemory> {
+    fn look(&mut self, alloc: Global, now: u64) -> Result<NotifyState, OutOfMemory> {
         if let Some(code) = self.hear(alloc, now)? {
-            return Ok(Told::Answered(code));
+            return Ok(NotifyState::Answered(code));
         }
         match self.asking.tick(now) {
-            Ticked::Nothing => Ok(Told::Waiting),
+            Ticked::Nothing => Ok(NotifyState::Waiting),
             Ticked::Send => {
                 self.send();
-                Ok(Told::Waiting)
+                Ok(NotifyState::Waiting)
             }
-            Ticked::GaveUp => Ok(Told::GaveUp),
+            Ticked::GaveUp => Ok(NotifyState::GaveUp),
         }
     }
 }
@@ -156,7 +156,7 @@ struct Known {
 #[derive(Drop)]
 pub(crate) struct Notifier {
     known: Vec<Known>,
-    tellings: Vec<Telling>,
+    pending: Vec<PendingNotify>,
 }
 
 impl Notifier {
@@ -164,7 +164,7 @@ impl Notifier {
     pub(crate) fn new(alloc: Global) -> Notifier {
         Notifier {
             known: Vec::new(alloc),
-            tellings: Vec::new(alloc),
+            pending: Vec::new(alloc),
         }
     }
 
@@ -189,10 +189,10 @@ impl Notifier {
         let apex = &entry.name.name;
         for endpoint in entry.notify.iter() {
             let to = endpoint.address;
-            match Telling::begin(machine, rt.alloc(), apex, to, now) {
-                Ok(telling) => {
+            match PendingNotify::begin(machine, rt.alloc(), apex, to, now) {
+                Ok(notify) => {
                     info!(rt; "{apex}: NOTIFY to {}", Shown(to));
-                    self.tellings.push(telling)?;
+                    self.pending.push(notify)?;
                 }
                 Err(fault) => error!(rt; "{apex}: NOTIFY to {}: {fault:#}", Shown(to)),
             }
@@ -227,16 +227,16 @@ impl Notifier {
     /// Takes the answers that came, and sends again what wasn't answered.
     pub(crate) fn look(&mut self, rt: &HostRuntime, now: u64) -> anyhow::Result<()> {
         let alloc = rt.alloc();
-        let tellings = mem::replace(&mut self.tellings, Vec::new(alloc));
-        for telling in tellings {
-            let mut telling = telling;
-            match telling.look(alloc, now)? {
-                Told::Waiting => self.tellings.push(telling)?,
-                Told::Answered(code) => {
-                    info!(rt; "{}: NOTIFY was answered by {} with code {code}", telling.apex, Shown(telling.to));
+        let pending = mem::replace(&mut self.pending, Vec::new(alloc));
+        for notify in pending {
+            let mut notify = notify;
+            match notify.look(alloc, now)? {
+                NotifyState::Waiting => self.pending.push(notify)?,
+                NotifyState::Answered(code) => {
+                    info!(rt; "{}: NOTIFY was answered by {} with code {code}", notify.apex, Shown(notify.to));
                 }
-                Told::GaveUp => {
-                    error!(rt; "{}: NOTIFY wasn't answered by {}", telling.apex, Shown(telling.to));
+                NotifyState::GaveUp => {
+                    error!(rt; "{}: NOTIFY wasn't answered by {}", notify.apex, Shown(notify.to));
                 }
             }
         }

@@ -3,6 +3,7 @@
 ghost use Rattle.std.specs.Prelude.{◌≡◌, IfOk};
 ghost use Rattle.std.specs.Arc.{arc_value};
 
+use crate::configuration::Shown;
 use crate::layers::{Tally, serve_zones};
 use crate::listener::Listener;
 use crate::place::Place;
@@ -15,6 +16,7 @@ use dns_name::OutOfMemory;
 use dns_opt::Nsid;
 use dns_secondary_service::{NotifyTarget, Withholding};
 use dns_workers::HostEnd;
+use log::error;
 use std::alloc::Global;
 use std::rt::Clock;
 use std::sync::{Arc, Wait};
@@ -162,4 +164,38 @@ impl<R> Running<R> {
         let Running { thread, .. } = self;
         thread.join(rt)
     }
+}
+
+/// Whether a listener was shut down or has ended by itself.
+pub(crate) fn has_ended<R: Wait>(machine: &R, running: &mut [Running<R>]) -> bool {
+    for one in running {
+        if one.is_closed(machine) {
+            return true;
+        }
+    }
+    false
+}
+
+/// Shuts each listener down.
+pub(crate) fn close_all<R: Wait>(machine: &R, running: &mut [Running<R>]) {
+    for one in running {
+        one.close(machine);
+    }
+}
+
+/// Takes the listeners back, each once it has ended.
+pub(crate) fn take_back<R: Threads + Drop>(
+    machine: &R,
+    rt: &HostRuntime,
+    running: Vec<Running<R>>,
+) -> anyhow::Result<Vec<Listener<R>>> {
+    let mut listeners = Vec::new(rt.alloc());
+    for one in running {
+        let (listener, end) = one.join(machine);
+        if end != HostEnd::Done {
+            error!(rt; "{}: an accept, a thread, a receive or a send failed", Shown(listener.address));
+        }
+        listeners.push(listener)?;
+    }
+    Ok(listeners)
 }

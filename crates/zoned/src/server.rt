@@ -4,21 +4,20 @@ use crate::configuration::Shown;
 use crate::control::{Caller, Control, Order};
 use crate::copies::Copies;
 use crate::counts::Counters;
-use crate::listener::Listener;
+use crate::listener::{Listener, bind_all, say_listeners};
 use crate::load::report;
 use crate::notifier::Notifier;
-use crate::running::{Offer, Running};
+use crate::running::{Offer, Running, close_all, has_ended, take_back};
 use crate::served::Served;
 use dns_config::Config;
 use dns_name::OutOfMemory;
-use dns_workers::HostEnd;
 use log::{error, info};
 use std::alloc::Global;
 use std::net::Net;
 use std::random::RandomSource;
 use std::rt::{Clock, Files};
 use std::sync::Wait;
-use std::thread::{self, Threads, available_parallelism};
+use std::thread::{self, Threads};
 use std::time::{Duration, Instant};
 
 /// How often it is looked whether something is asked.
@@ -54,54 +53,12 @@ struct Server {
     phase: Phase,
 }
 
-/// Whether a listener was shut down or has ended by itself.
-fn has_ended<R: Wait>(machine: &R, running: &mut [Running<R>]) -> bool {
-    for one in running {
-        if one.is_closed(machine) {
-            return true;
-        }
-    }
-    false
-}
-
-/// Shuts each listener down.
-fn close_all<R: Wait>(machine: &R, running: &mut [Running<R>]) {
-    for one in running {
-        one.close(machine);
-    }
-}
-
 /// Says why a reload is refused.
 fn refuse(rt: &HostRuntime, caller: &mut Caller, fault: &anyhow::Error) -> anyhow::Result<()> {
     error!(rt; "reload refused: {fault:#}");
     let text = format!(in rt.alloc(); "refused: {fault:#}\n")?;
     caller.say(text.as_str())?;
     Ok(())
-}
-
-/// How many processors there are, as far as that is known.
-fn processors<R: Threads>(machine: &R) -> usize {
-    match available_parallelism(machine) {
-        Ok(processors) => processors.get(),
-        Err(_) => 1,
-    }
-}
-
-/// Opens the sockets of each address.
-fn bind_all<R: Net + Clock + Threads + Copy>(
-    machine: R,
-    alloc: Global,
-    config: &Config,
-    counters: &Counters,
-) -> anyhow::Result<Vec<Listener<R>>> {
-    let workers = config.workers(processors(&machine));
-    let mut listeners = Vec::new(alloc);
-    for endpoint in config.listen.iter() {
-        let address = endpoint.address;
-        let listener = Listener::bind(machine, alloc, address, workers, counters.queries())?;
-        listeners.push(listener)?;
-    }
-    Ok(listeners)
 }
 
 /// Opens the control socket, where one is named.
@@ -114,31 +71,6 @@ fn open_control<R: Net + Files>(
         Some(path) => Ok(Some(Control::bind(machine, alloc, path.as_str())?)),
         None => Ok(None),
     }
-}
-
-/// Says where is listened.
-fn say_listeners<R>(rt: &HostRuntime, listeners: &[Listener<R>]) -> anyhow::Result<()> {
-    for listener in listeners {
-        println!(rt; "listening on {}", Shown(listener.address))?;
-    }
-    Ok(())
-}
-
-/// Takes the listeners back, each once it has ended.
-fn take_back<R: Threads + Drop>(
-    machine: &R,
-    rt: &HostRuntime,
-    running: Vec<Running<R>>,
-) -> anyhow::Result<Vec<Listener<R>>> {
-    let mut listeners = Vec::new(rt.alloc());
-    for one in running {
-        let (listener, end) = one.join(machine);
-        if end != HostEnd::Done {
-            error!(rt; "{}: an accept, a thread, a receive or a send failed", Shown(listener.address));
-        }
-        listeners.push(listener)?;
-    }
-    Ok(listeners)
 }
 
 impl Server {
@@ -169,7 +101,7 @@ impl Server {
         rt: &HostRuntime,
     ) -> anyhow::Result<Vec<Listener<R>>> {
         let alloc = rt.alloc();
-        let listeners = bind_all(machine, alloc, &self.served.config, &self.counters)?;
+        let listeners = bind_all(machine, alloc, &self.served.config, self.counters.queries())?;
         self.control = open_control(&machine, alloc, &self.served.config)?;
         self.follow_copies(rt)?;
         say_listeners(rt, listeners.as_slice())?;
