@@ -5,7 +5,6 @@ ghost use Rattle.std.specs.Arc.{arc_value};
 
 use crate::listener::Listener;
 use crate::place::{Place, serve_at};
-use dns_host::HostEnd;
 use dns_middleware::{Notifiable, Settings, wrap};
 use dns_opt::Nsid;
 use dns_own_opt::OwnOptSvc;
@@ -15,6 +14,7 @@ use dns_secondary_service::Withholding;
 use dns_service::{Service, WithoutMeta};
 use dns_transfer_notes::{NotingSvc, TransferNotes};
 use dns_udp_size::ClassicUdpSize;
+use dns_workers::HostEnd;
 use std::alloc::Global;
 use std::rt::Clock;
 use std::sync::{Arc, Wait};
