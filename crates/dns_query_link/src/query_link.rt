@@ -19,6 +19,8 @@ pub struct QueryLink<L> {
     counts: Option<Arc<QueryCounts>>,
     // Whether memory was wanting.
     ended: bool,
+    // Whether a write answered Again since the last wait.
+    full: bool,
 }
 
 impl<L> QueryLink<L> {
@@ -32,6 +34,7 @@ impl<L> QueryLink<L> {
             frames: QueryFrames::new(alloc),
             counts,
             ended: false,
+            full: false,
         }
     }
 
@@ -97,14 +100,19 @@ impl<L: Link> Link for QueryLink<L> {
     }
 
     fn write(&mut self, piece: &[u8]) -> LinkWrite {
-        self.inner.write(piece)
+        let written = self.inner.write(piece);
+        if let LinkWrite::Again = written {
+            self.full = true;
+        }
+        written
     }
 
-    /// Returns at once where octets wait to be read.
+    /// Waits for room where the last write answered Again, and else returns at once where octets wait to be read.
     fn wait<R: Wait>(&mut self, rt: &R, millis: u64) {
-        if self.frames.is_empty() {
+        if self.full || self.frames.is_empty() {
             self.inner.wait(rt, millis);
         }
+        self.full = false;
     }
 
     fn close(&mut self) {
