@@ -1,8 +1,8 @@
 -- The frames of octets, of which those of queries are passed on.
-use Rattle.std.proofs.Common.{◌≡◌, ℕ, ◌+◌, ◌≤◌, ◌<◌, Bool, true, false, List, [], ◌∷◌, ◌++◌, length, take, drop, refl, ap, sym, ◌∙◌, arith, append_assoc, append-nil, length-append, length-drop}
-use Rattle.std.specs.Prelude.{filter, not, Some, None}
+use Rattle.std.proofs.Common.{◌≡◌, ℕ, ◌+◌, ◌-◌, ◌≤◌, true, false, List, [], ◌∷◌, ◌++◌, length, take, drop, refl, ap, sym, ◌∙◌, arith, append_assoc, append-nil, length-append, length-drop}
+use Rattle.std.specs.Prelude.{filter, Some, None}
 use Rattle.std.specs.List.{flat_map}
-use Rattle.std.proofs.lemmas.List.{drop-drop, take-append-le}
+use Rattle.std.proofs.lemmas.List.{drop-drop, length-take-le, take-append-drop, take-append-le, take_all}
 use Rattle.std.proofs.Math.Seq.{take-append_seam}
 use Rattle.dns_framing.specs.Frames.{behind_frames, first_frame, framed, frames}
 use Rattle.dns_framing.proofs.FramesLemmas.{first-framed, frames-framed, frames_none, rest_none, rest_some}
@@ -10,7 +10,7 @@ use Rattle.dns_query_sock.specs.Queries.{is_response}
 use Rattle.dns_query_link.specs.QueryFrames.{HasNone, IsSifted, is_query, passed_on}
 
 -- octets that begin with a frame
-record Begins (o f : List ℕ) (n : ℕ) : Type 0 where
+pub record Begins (o f : List ℕ) (n : ℕ) : Type 0 where
   pub within : n ≤ length o
   pub whole : o ≡ framed f ++ drop n o
 
@@ -77,3 +77,15 @@ at_end o before w w' at left given s = (
   sym s.left ∙ left,
   s.given ∙ (sym (append-nil w) ∙ (ap (λ (l : List ℕ). w ++ l) (sym s.none) ∙ given)),
 )
+
+-- octets that wait, of which some are moved to the front of a buffer
+pub moved : (at n : ℕ) (w d buf front waiting : List ℕ) → d ≡ w → waiting ≡ drop at w → n ≤ length (take (length d - at) (drop at d)) → front ≡ take n (take (length d - at) (drop at d)) → waiting ≡ take n (front ++ drop n buf) ++ drop (at + n) w
+moved at n w d buf front waiting lent is room same =
+    let rest : take (length d - at) (drop at d) ≡ drop at w = take_all (length d - at) (drop at d) (omega (arith, length-drop at d)) ∙ ap (drop at) lent in
+    let first : front ≡ take n (drop at w) = same ∙ ap (take n) rest in
+    let fits : n ≤ length (drop at w) = omega (arith, room, ap length rest) in
+    let size : length front ≡ n = ap length first ∙ length-take-le n (drop at w) fits in
+    let short : n ≤ length front = omega (arith, size) in
+    let long : length front ≤ n = omega (arith, size) in
+    let begin : take n (front ++ drop n buf) ≡ take n (drop at w) = take-append-le n front (drop n buf) short ∙ (take_all n front long ∙ first) in
+    is ∙ (sym (take-append-drop n (drop at w)) ∙ (ap (λ (l : List ℕ). l ++ drop n (drop at w)) (sym begin) ∙ ap (λ (l : List ℕ). take n (front ++ drop n buf) ++ l) (drop-drop n at w)))

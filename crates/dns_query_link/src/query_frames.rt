@@ -105,7 +105,10 @@ impl QueryFrames {
     {
         self.reuse();
         self.kept.extend_from_slice(piece)?;
-        let (end, dropped) = sift(alloc, self.kept.as_slice(), &mut self.waiting)?;
+        let Ok((end, dropped)) = sift(alloc, self.kept.as_slice(), &mut self.waiting) else {
+            self.at = 0;
+            return Err(OutOfMemory);
+        };
         self.kept = Vec::from_slice(alloc, &self.kept[end..])?;
         Ok(dropped)
     }
