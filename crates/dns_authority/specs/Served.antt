@@ -4,6 +4,7 @@ use Rattle.std.specs.List.{position}
 use Rattle.dns_message.specs.declared.question.Question.{Question}
 use Rattle.dns_service.specs.Req.{Req}
 use Rattle.dns_transfer.specs.Transfers.{bunched, joined_answers, transfer_records}
+use Rattle.dns_zone.specs.Owned.{ZoneState}
 use Rattle.dns_zone_tree.specs.Long.{is_long}
 use Rattle.dns_authority.specs.Authorities.{AsksTransfer, AuthorityState, ServedState, authority_answer, may_transfer}
 

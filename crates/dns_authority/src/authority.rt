@@ -148,7 +148,7 @@ impl Authority {
         question: &QuestionRef<'_>,
         zone: &ServedZone,
     ) -> Result<AuthorityStream, OutOfMemory>
-        ensures { IfOk result (λ s. ⟦<AuthorityStream as ReplyStream>⟧.answer s ≡ transferred self.now.allowed request.now question.now zone.now) }
+        ensures { IfOk result (λ s. ⟦<AuthorityStream as ReplyStream>⟧.answer s ≡ transferred zone.now.allowed request.now question.now zone.now.zone) }
     {
         if zone.allows(request, question) {
             let transfer = zone.transfer(request)?;

@@ -1,33 +1,30 @@
 -- All replies of a request that are in a transaction were sent, in order.
-use Rattle.std.proofs.Common.{◌≡◌, ◌≢◌, ◌≤◌, ◌<◌, ◌⊎◌, ℕ, zero, suc, ◌+◌, inl, inr, Bool, true, false, List, [], ◌∷◌, ◌++◌, length, map, Option, Some, None, refl, ap, sym, subst, ◌∙◌, arith, append-nil}
+use Rattle.std.proofs.Common.{◌≡◌, ◌≢◌, ◌≤◌, ◌<◌, ℕ, zero, suc, ◌+◌, inl, inr, Bool, true, false, List, [], ◌∷◌, ◌++◌, length, map, Option, Some, None, refl, ap, sym, subst, ◌∙◌, arith, append-nil}
 use Rattle.std.specs.Prelude.{slice_get, option_map, if◌then◌else◌, nat_le, Ok, Err}
 use Rattle.std.proofs.lemmas.List.{length-map}
 use Rattle.std.proofs.lemmas.Bool.Decides.{nat_tests}
-use Rattle.dns_base.specs.Msg.{Msg, ResourceRecord}
+use Rattle.dns_base.specs.Msg.{ResourceRecord}
 use Rattle.dns_base.specs.Wire.{wire}
 use Rattle.dns_events.specs.declared.event.Event.{Event}
-use Rattle.dns_events.specs.declared.event.Output.{Output}
 use Rattle.dns_events.specs.declared.settings.Settings.{Settings}
 use Rattle.dns_service.specs.Answer.{Answer}
-use Rattle.dns_service.specs.Req.{Req}
 use Rattle.dns_service.specs.declared.service.Polled.TheVariants.{Ready}
 use Rattle.dns_service.specs.declared.service.ServiceError.TheVariants.{InternalError}
-use Rattle.dns_service.specs.declared.invoker.InvokerStatus.{InvokerStatus}
 use Rattle.dns_session.specs.Connections.{is_in_transaction}
 use Rattle.dns_session.specs.Serving.{Serving}
-use Rattle.dns_session.specs.Slate.{Slate, SlateRequest}
-use Rattle.dns_session.specs.Turns.{limit_for, reply_to, sent_for}
+use Rattle.dns_session.specs.Slate.{SlateRequest}
+use Rattle.dns_session.specs.Turns.{sent_for}
 use Rattle.dns_model.specs.Own.{own}
 use Rattle.dns_model.specs.Sent.{sent, slate}
 use Rattle.dns_model.specs.Settings.{opening}
-use Rattle.dns_core.specs.Trails.{Origin, Trail, AreFrom, AreQueued, IsRising, IsSomewhere, in_order, messages_sent, on_wire, origin, poll_of, polls_of, reply_at, trail_of}
+use Rattle.dns_core.specs.Trails.{Origin, Trail, AreFrom, AreQueued, IsRising, IsSomewhere, in_order, messages_sent, on_wire, poll_of, polls_of, reply_at, trail_of}
 use Rattle.dns_core.proofs.Origins.{At}
-use Rattle.dns_transfer.specs.Transfers.{TransferFits, answer_message, bunched, feedback_at, message_item, status_behind, transfer, transfer_message, transfer_of, transfer_poll, transfer_records}
+use Rattle.dns_transfer.specs.Transfers.{TransferFits, answer_message, bunched, feedback_at, status_behind, transfer, transfer_message, transfer_poll, transfer_records}
 use Rattle.dns_transfer.proofs.TransactionLaws.{transfers_are_transactions}
 use Rattle.dns_zone.specs.Owned.{ZoneState}
 use Rattle.dns_sent_transfer.specs.SentTransfers.{AreAmong, AreReplies, IsWritten, TransactionsLoseNothing, TransfersAreSentWhole, octets_sent, transfer_octets}
 use Rattle.dns_sent_transfer.proofs.AmongLaws.{Went, among, octets_of_messages}
-use Rattle.dns_sent_transfer.proofs.StatusLaws.{AreOutside, dropped_are_outside}
+use Rattle.dns_sent_transfer.proofs.StatusLaws.{dropped_are_outside}
 
 -- what the core says of the replies of its clients
 abbrev pub SentInOrder : Type 0

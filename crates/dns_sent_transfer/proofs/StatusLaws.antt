@@ -11,7 +11,6 @@ use Rattle.dns_events.specs.declared.event.EventKind.{EventKind}
 use Rattle.dns_events.specs.declared.event.EventKind.TheVariants.{Turn}
 use Rattle.dns_events.specs.declared.event.Why.{Why}
 use Rattle.dns_events.specs.declared.event.Why.TheVariants.{Short}
-use Rattle.dns_session.specs.After.{slate_after}
 use Rattle.dns_session.specs.Connections.{append_frame, close, enqueue_or_drop, flushed, is_in_transaction, room, take_frame, take_frames, take_request, written}
 use Rattle.dns_session.specs.Frames.{framed, frames}
 use Rattle.dns_session.specs.Heard.{answer_status}

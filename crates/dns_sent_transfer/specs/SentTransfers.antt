@@ -40,12 +40,14 @@ module _ (answers : Serving) where
   -- these are the replies to the first polls of request k, each in a transaction
   pub record AreReplies (k : ℕ) (r : SlateRequest) (replies : List (List ℕ)) : Type 0 where
     pub each : (n : ℕ) (o : List ℕ) → slice_get replies n ≡ Some o → reply_at answers (poll_of k r n) ≡ Some o
-    pub inside : (n : ℕ) (o : List ℕ) → slice_get replies n ≡ Some o → is_in_transaction (status_behind (answers.answer r.request) (suc n)) ≡ true
+    pub inside : (n : ℕ) (o : List ℕ) → slice_get replies n ≡ Some o
+        → is_in_transaction (status_behind (answers.answer r.request) (suc n)) ≡ true
 
 -- then all of them were sent, in order
 abbrev pub TransactionsLoseNothing : Type 0
-TransactionsLoseNothing = (answers : Serving) (settings : Settings) (c k : ℕ) (es : List Event) (r : SlateRequest) (replies : List (List ℕ)) → IsWritten (slate answers settings c es) k r (length replies) → AreReplies answers k r replies →
-    AreAmong replies (octets_sent (sent answers settings (own c es)))
+TransactionsLoseNothing = (answers : Serving) (settings : Settings) (c k : ℕ) (es : List Event) (r : SlateRequest)
+    (replies : List (List ℕ)) → IsWritten (slate answers settings c es) k r (length replies) → AreReplies answers k r replies
+    → AreAmong replies (octets_sent (sent answers settings (own c es)))
 
 -- ---- transfers
 
@@ -55,5 +57,7 @@ transfer_octets z r = map (λ (b : List ResourceRecord). on_wire r.transport (tr
 
 -- where a request is answered by a transfer whose replies fit, all of these were sent, in order
 abbrev pub TransfersAreSentWhole : Type 0
-TransfersAreSentWhole = (answers : Serving) (settings : Settings) (c k : ℕ) (es : List Event) (r : SlateRequest) (z : ZoneState) → IsWritten (slate answers settings c es) k r (length (bunched (transfer_records z))) →
-    answers.answer r.request ≡ transfer z r.request.octets → TransferFits (bunched (transfer_records z)) r.request.octets → AreAmong (transfer_octets z r.request) (octets_sent (sent answers settings (own c es)))
+TransfersAreSentWhole = (answers : Serving) (settings : Settings) (c k : ℕ) (es : List Event) (r : SlateRequest) (z : ZoneState)
+    → IsWritten (slate answers settings c es) k r (length (bunched (transfer_records z)))
+    → answers.answer r.request ≡ transfer z r.request.octets → TransferFits (bunched (transfer_records z)) r.request.octets
+    → AreAmong (transfer_octets z r.request) (octets_sent (sent answers settings (own c es)))
