@@ -1,13 +1,20 @@
-/* The parts of a DNS server for callers from C: the layers round a service, and the connections of a server over streams.
- * Every call returns a status (enum nutscythe_status). A call that is refused leaves all as it was, but for what it says.
- * No call waits, ends the process, starts a thread, looks at a clock or keeps a pointer that it was given. The page
- * docs/embedding.md says which proved clause stands behind each call, and what is trusted.  A null pointer to an object (a
- * handle, an origin, a rule, a length) is the status NULL_POINTER, and nothing is changed. A null pointer to octets stands
- * for none.  What a caller keeps, since no call can look at it:  - a pointer that isn't null leads to as many octets or
- * objects as are said beside it, aligned as C aligns them;  - what a call writes (a buffer, a length, a handle) overlaps
- * nothing else that the call is given;  - a handle is all zeros at first (NUTSCYTHE_NONE), is changed by these calls alone,
- * is moved and never copied, and is given    to one call at a time. It may go to another thread;  - malloc, realloc and
- * free are one allocator's, aligned to 16 octets; no call is made from a signal handler;  - a bool is true or false. */
+/* The parts of a DNS server for callers from C: the layers round a service, messages that are built and read, the connections
+ * of a server over streams, and the book of their slots.
+ *
+ * Every call returns a status (enum nutscythe_status). A call that is refused leaves all as it was, but for what it says. No
+ * call waits, ends the process, starts a thread, looks at a clock or keeps a pointer that it was given. The page
+ * docs/embedding.md says which proved clause stands behind each call, and what is trusted.
+ *
+ * A null pointer to an object (a handle, an origin, a rule, a length) is the status NULL_POINTER, and nothing is changed. A
+ * null pointer to octets stands for none.
+ *
+ * What a caller keeps, since no call can look at it:
+ * - a pointer that isn't null leads to as many octets or objects as are said beside it, aligned as C aligns them;
+ * - what a call writes (a buffer, a length, a handle) overlaps nothing else that the call is given;
+ * - a handle is all zeros at first (NUTSCYTHE_NONE), is changed by these calls alone, is moved and never copied, and is given
+ *   to one call at a time. It may go to another thread;
+ * - malloc, realloc and free are one allocator's, aligned to 16 octets; no call is made from a signal handler;
+ * - a bool is true or false. */
 #ifndef NUTSCYTHE_H
 #define NUTSCYTHE_H
 
