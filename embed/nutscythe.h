@@ -1,13 +1,20 @@
-/* The parts of a DNS server for callers from C: the layers round a service, and the connections of a server over streams.
- * Every call returns a status (enum nutscythe_status). A call that is refused leaves all as it was, but for what it says.
- * No call waits, ends the process, starts a thread, looks at a clock or keeps a pointer that it was given. The page
- * docs/embedding.md says which proved clause stands behind each call, and what is trusted.  A null pointer to an object (a
- * handle, an origin, a rule, a length) is the status NULL_POINTER, and nothing is changed. A null pointer to octets stands
- * for none.  What a caller keeps, since no call can look at it:  - a pointer that isn't null leads to as many octets or
- * objects as are said beside it, aligned as C aligns them;  - what a call writes (a buffer, a length, a handle) overlaps
- * nothing else that the call is given;  - a handle is all zeros at first (NUTSCYTHE_NONE), is changed by these calls alone,
- * is moved and never copied, and is given    to one call at a time. It may go to another thread;  - malloc, realloc and
- * free are one allocator's, aligned to 16 octets; no call is made from a signal handler;  - a bool is true or false. */
+/* The parts of a DNS server for callers from C: the layers round a service, messages that are built and read, the connections
+ * of a server over streams, and the book of their slots.
+ *
+ * Every call returns a status (enum nutscythe_status). A call that is refused leaves all as it was, but for what it says. No
+ * call waits, ends the process, starts a thread, looks at a clock or keeps a pointer that it was given. The page
+ * docs/embedding.md says which proved clause stands behind each call, and what is trusted.
+ *
+ * A null pointer to an object (a handle, an origin, a rule, a length) is the status NULL_POINTER, and nothing is changed. A
+ * null pointer to octets stands for none.
+ *
+ * What a caller keeps, since no call can look at it:
+ * - a pointer that isn't null leads to as many octets or objects as are said beside it, aligned as C aligns them;
+ * - what a call writes (a buffer, a length, a handle) overlaps nothing else that the call is given;
+ * - a handle is all zeros at first (NUTSCYTHE_NONE), is changed by these calls alone, is moved and never copied, and is given
+ *   to one call at a time. It may go to another thread;
+ * - malloc, realloc and free are one allocator's, aligned to 16 octets; no call is made from a signal handler;
+ * - a bool is true or false. */
 #ifndef NUTSCYTHE_H
 #define NUTSCYTHE_H
 
@@ -104,6 +111,22 @@ enum nutscythe_call {
     NUTSCYTHE_SHUTDOWN = 2
 };
 
+/* How servers are configured. Times are in ms, and sizes in octets. */
+typedef struct nutscythe_servers {
+    uint64_t dgram_write_timeout;  /* how long the write of a datagram may take: 1 to 60,000 */
+    uint64_t idle_timeout;         /* how long a connection may be idle: 200 to 2,592,000,000 */
+    uint64_t write_timeout;        /* how long the write of a frame may take: 1 to 3,600,000 */
+    uint64_t budget_window;        /* how long a window of the response budget is: 1 to 3,600,000 */
+    uint32_t max_connections;      /* how many connections may hold a slot: 1 to 100,000 */
+    uint32_t response_budget;      /* how many replies a connection may queue in a window: 1 to 1,000,000, or 0: no budget */
+    uint16_t max_response_size;    /* the most octets of a reply in a datagram: 512 to 4,096, or 0: what the client says */
+    uint16_t max_queued_responses; /* how many replies may wait on a connection: 1 to 1,024 */
+    uint8_t accepts_at_max;        /* not 0: a connection that finds no slot is accepted, and closed at once */
+} nutscythe_servers;
+
+/* Of settings that are made. */
+#define NUTSCYTHE_SERVERS { 5000, 30000, 30000, 1000, 100, 0, 1232, 10, 1 }
+
 /* Why a text says no settings. */
 typedef struct nutscythe_line_refusal {
     uint64_t line;   /* the first bad line, counted from 1 */
@@ -118,6 +141,8 @@ uint32_t nutscythe_raw_free(nutscythe_handle *handle, size_t handles);
 uint32_t nutscythe_raw_settings_new(bool strict, bool edns, nutscythe_settings *settings, size_t handles);
 uint32_t nutscythe_raw_settings_read(const uint8_t *text, size_t len, nutscythe_settings *settings, size_t handles,
                                      nutscythe_line_refusal *refusal, size_t refusals);
+uint32_t nutscythe_raw_settings_servers(nutscythe_settings *settings, size_t handles, const nutscythe_servers *servers,
+                                        size_t given);
 uint32_t nutscythe_raw_settings_cookies(nutscythe_settings *settings, size_t handles, const uint8_t *secret, size_t len);
 uint32_t nutscythe_raw_settings_deny(nutscythe_settings *settings, size_t handles, const uint8_t *address, size_t len);
 uint32_t nutscythe_raw_settings_copy(nutscythe_settings *settings, size_t handles, nutscythe_settings *copy, size_t copies);
@@ -192,6 +217,14 @@ static inline uint32_t nutscythe_settings_read(const uint8_t *text, size_t len, 
                                                nutscythe_line_refusal *refusal)
 {
     return nutscythe_raw_settings_read(text, nutscythe_len(text, len), settings, settings != NULL, refusal, refusal != NULL);
+}
+
+/* Sets how servers are configured: datagrams, connections, slots.
+ * gives: DONE.
+ * refuses: OUT_OF_RANGE for a number out of its range, NO_HANDLE, NULL_POINTER; the settings stay. */
+static inline uint32_t nutscythe_settings_servers(nutscythe_settings *settings, const nutscythe_servers *servers)
+{
+    return nutscythe_raw_settings_servers(settings, settings != NULL, servers, servers != NULL);
 }
 
 /* Switches server cookies on, with this secret of 16 octets (RFC 7873, RFC 9018). The secret is copied.

@@ -54,7 +54,8 @@ static uint32_t serve(const nutscythe_rule *rule, size_t len, size_t *reply_len)
     status = nutscythe_reply_begin(message, len, 0, true, &built);
     if (status == NUTSCYTHE_DONE && question[question_len - 4] == 0 && question[question_len - 3] == 1)
         status = nutscythe_reply_add(&built, NUTSCYTHE_ANSWER, question, question_len - 4, 1, 1, 60, address, sizeof address);
-    return status == NUTSCYTHE_DONE ? nutscythe_reply_write(&built, rule, reply, sizeof reply, reply_len) : status;
+    return status == NUTSCYTHE_DONE ? nutscythe_reply_write(&built, rule, reply, sizeof reply, reply_len)
+                                    : nutscythe_refuse(rule, message, len, 2, reply, sizeof reply, reply_len);
 }
 
 /* How many octets of reply are to be sent for the message, or 0. */

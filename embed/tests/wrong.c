@@ -46,6 +46,7 @@ static void nulls(nutscythe_settings *s, nutscythe_connection *c)
     uint64_t deadline = 7;
     nutscythe_rule rule = {.id = 3};
     nutscythe_line_refusal refusal = {.line = 9};
+    nutscythe_servers servers = NUTSCYTHE_SERVERS;
     nutscythe_settings other = NUTSCYTHE_NONE;
     nutscythe_origin origin = {.octets = {127, 0, 0, 1}, .port = 53, .family = 4};
     memset(reply, 7, sizeof reply);
@@ -53,6 +54,8 @@ static void nulls(nutscythe_settings *s, nutscythe_connection *c)
     is(nutscythe_settings_new(true, true, NULL), NUTSCYTHE_NULL_POINTER);
     is(nutscythe_settings_read(seed, 3, NULL, &refusal), NUTSCYTHE_NULL_POINTER);
     is(nutscythe_settings_read(seed, 3, &other, NULL), NUTSCYTHE_NULL_POINTER);
+    is(nutscythe_settings_servers(NULL, &servers), NUTSCYTHE_NULL_POINTER);
+    is(nutscythe_settings_servers(s, NULL), NUTSCYTHE_NULL_POINTER);
     is(nutscythe_settings_cookies(NULL, seed, 16), NUTSCYTHE_NULL_POINTER);
     is(nutscythe_settings_deny(NULL, seed, 4), NUTSCYTHE_NULL_POINTER);
     is(nutscythe_settings_copy(NULL, &other), NUTSCYTHE_NULL_POINTER);
@@ -102,6 +105,45 @@ static void nulls(nutscythe_settings *s, nutscythe_connection *c)
     assert(other.at == NULL && len == 77 && deadline == 7 && rule.id == 3 && refusal.line == 9 && reply[0] == 7);
 }
 
+/* Servers that are configured by numbers: each out of its range in turn, and then a queue of one reply and an idle timeout. */
+static void configured(void)
+{
+    static const nutscythe_servers fit = {.dgram_write_timeout = 1, .idle_timeout = 200, .write_timeout = 3600000, .budget_window = 1,
+                                          .max_connections = 1, .max_response_size = 512, .max_queued_responses = 1};
+    nutscythe_settings settings = NUTSCYTHE_NONE;
+    nutscythe_connection connection = NUTSCYTHE_NONE;
+    is(nutscythe_settings_new(true, true, &settings), NUTSCYTHE_DONE);
+    is(nutscythe_settings_servers(&settings, &fit), NUTSCYTHE_DONE);
+    for (int i = 0; i < 15; i++) {
+        nutscythe_servers unfit = fit;
+        switch (i) {
+        case 0: unfit.dgram_write_timeout = 0; break;
+        case 1: unfit.dgram_write_timeout = 60001; break;
+        case 2: unfit.idle_timeout = 199; break;
+        case 3: unfit.idle_timeout = 2592000001; break;
+        case 4: unfit.write_timeout = 0; break;
+        case 5: unfit.write_timeout = 3600001; break;
+        case 6: unfit.budget_window = 0; break;
+        case 7: unfit.budget_window = 3600001; break;
+        case 8: unfit.max_connections = 0; break;
+        case 9: unfit.max_connections = 100001; break;
+        case 10: unfit.response_budget = 1000001; break;
+        case 11: unfit.max_response_size = 511; break;
+        case 12: unfit.max_response_size = 4097; break;
+        case 13: unfit.max_queued_responses = 0; break;
+        case 14: unfit.max_queued_responses = 1025; break;
+        }
+        is(nutscythe_settings_servers(&settings, &unfit), NUTSCYTHE_OUT_OF_RANGE);
+    }
+    is(nutscythe_connection_open(&settings, 7, &connection), NUTSCYTHE_DONE);
+    is(nutscythe_connection_offer(&connection, 7, seed, seed_len), NUTSCYTHE_DONE);
+    is(nutscythe_connection_offer(&connection, 7, seed, seed_len), NUTSCYTHE_DROPPED);
+    is(nutscythe_connection_tick(&connection, 206), NUTSCYTHE_DONE);
+    is(nutscythe_connection_tick(&connection, 207), NUTSCYTHE_CLOSE);
+    is(nutscythe_free(&connection), NUTSCYTHE_DONE);
+    is(nutscythe_free(&settings), NUTSCYTHE_DONE);
+}
+
 /* A reply that is built, out of order, too long, into a short buffer, and read again. */
 static void built(const nutscythe_rule *rule)
 {
@@ -135,6 +177,7 @@ static void built(const nutscythe_rule *rule)
 /* Handles of another kind, or that hold nothing, and numbers out of range. */
 static void wrong(nutscythe_settings *s, nutscythe_connection *c)
 {
+    static const nutscythe_servers servers = NUTSCYTHE_SERVERS;
     uint8_t reply[600];
     size_t len = 77;
     uint32_t request = 1, section = 9, none_such = 3 + (uint32_t)number() % 99;
@@ -148,6 +191,7 @@ static void wrong(nutscythe_settings *s, nutscythe_connection *c)
     memset(reply, 7, sizeof reply);
     is(nutscythe_decide(not_settings, &origin, 1, seed, 12, reply, sizeof reply, &len, &rule), NUTSCYTHE_NO_HANDLE);
     is(nutscythe_datagram(not_settings, &origin, 1, seed, 12, reply, sizeof reply, &len, &rule), NUTSCYTHE_NO_HANDLE);
+    is(nutscythe_settings_servers(not_settings, &servers), NUTSCYTHE_NO_HANDLE);
     is(nutscythe_settings_cookies(not_settings, seed, 16), NUTSCYTHE_NO_HANDLE);
     is(nutscythe_settings_deny(not_settings, seed, 4), NUTSCYTHE_NO_HANDLE);
     is(nutscythe_settings_copy(not_settings, &none), NUTSCYTHE_NO_HANDLE);
@@ -281,6 +325,7 @@ int main(int argc, char **argv)
     is(nutscythe_settings_read((const uint8_t *)text, sizeof text - 1, &settings, &refusal), NUTSCYTHE_DONE);
     is(nutscythe_connection_open(&settings, 1, &connection), NUTSCYTHE_DONE);
     nulls(&settings, &connection);
+    configured();
     for (long i = 0; i < calls / 60; i++)
         wrong(&settings, &connection);
     for (uint64_t i = 0; i < 100; i++)

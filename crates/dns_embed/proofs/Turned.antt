@@ -23,7 +23,7 @@ use Rattle.dns_session.specs.Serving.{Serving}
 use Rattle.dns_session.specs.Slate.{Slate, SlateRequest}
 use Rattle.dns_session.specs.Turns.{answered, ends, hold, queue_reply, reply_to, retimed, turn_request, with_request}
 use Rattle.dns_embed.specs.declared.connection.Connection.{Connection}
-use Rattle.dns_embed.specs.Transactions.{fate_of, giving, hearing, invoker_told, queueing}
+use Rattle.dns_embed.specs.Transactions.{fate_of, giving, hearing, invoker_hearing, queueing}
 use Rattle.dns_embed.specs.declared.transactions.Heard.TheVariants.{Nothing}
 use Rattle.dns_embed.specs.Turned.{GivesAsTurned, GivesHeldAsTurned, ShowsIn, frame_for, heard_in, heard_of, kept_frame, past_item, shown_by}
 
@@ -44,18 +44,18 @@ begins at status i s q b t =
     ∙ ap (λ (x : ℕ). record (invoker_in at status s) { idle_timeout = x }) t)
 
 -- what is heard tells how far the request is, and for how long the connection may be idle
-told-feedback : (at : ℕ) (status : InvokerStatus) (s : Slate) (f : Option ServiceFeedback)
+heard-feedback : (at : ℕ) (status : InvokerStatus) (s : Slate) (f : Option ServiceFeedback)
     → hearing (heard_in f) (invoker_in at status s) ≡ invoker_in at (status_after_some f status) (timed (timeout_after_some f s.connection.idle_timeout) s)
-told-feedback at status s None = refl
-told-feedback at status s (Some (Reconfigure None)) = refl
-told-feedback at status s (Some (Reconfigure (Some timeout))) = refl
-told-feedback at status s (Some BeginTransaction) = refl
-told-feedback at status s (Some EndTransaction) = refl
+heard-feedback at status s None = refl
+heard-feedback at status s (Some (Reconfigure None)) = refl
+heard-feedback at status s (Some (Reconfigure (Some timeout))) = refl
+heard-feedback at status s (Some BeginTransaction) = refl
+heard-feedback at status s (Some EndTransaction) = refl
 
-told : (at : ℕ) (status : InvokerStatus) (s : Slate) (item : Item)
+heard-item : (at : ℕ) (status : InvokerStatus) (s : Slate) (item : Item)
     → hearing (heard_of item) (invoker_in at status s) ≡ invoker_in at (answer_status (Ready (Some item)) status) (timed (answer_timeout (Ready (Some item)) s.connection.idle_timeout) s)
-told at status s (Ok given) = told-feedback at status s given.feedback
-told at status s (Err error) = refl
+heard-item at status s (Ok given) = heard-feedback at status s given.feedback
+heard-item at status s (Err error) = refl
 
 -- a reply to the octets, without a limit
 replies : (o : List ℕ) (item : Item) → reply_to None o (Ready (Some item)) ≡ reply_in o item
@@ -123,8 +123,8 @@ as-turned answers at k c s r item shows none gives =
     let frame = frame_for o item in
     let timeout = answer_timeout a s.connection.idle_timeout in
     let j = invoker_in at (answer_status a r.status) (timed timeout s) in
-    let i = invoker_told at r.status (heard_of item) c in
-    let e : i ≡ j = ap (hearing (heard_of item)) (begins at r.status c.invoker s shows.queue shows.budget shows.idle_timeout) ∙ told at r.status s item in
+    let i = invoker_hearing at r.status (heard_of item) c in
+    let e : i ≡ j = ap (hearing (heard_of item)) (begins at r.status c.invoker s shows.queue shows.budget shows.idle_timeout) ∙ heard-item at r.status s item in
     let turns : turn_request answers at k r.held r s ≡ queue_reply at k (reply_to None o a) (answered a r) (retimed a s) =
     ap (λ (h : Option (List ℕ)). turn_request answers at k h r s) none
     ∙ ap (λ (x : Answer). queue_reply at k (reply_to None o x) (answered x r) (retimed x s)) gives in
@@ -154,7 +154,7 @@ held-shows at k m r s i false room shows e = subst (λ (x : ConnectionInvoker). 
 
 pub held-as-turned : GivesHeldAsTurned
 held-as-turned answers at k c s r m shows held =
-    let i = invoker_told at r.status Nothing c in
+    let i = invoker_hearing at r.status Nothing c in
     let j = invoker_in at r.status s in
     let e : i ≡ j = begins at r.status c.invoker s shows.queue shows.budget shows.idle_timeout in
     let here : ShowsIn i s = record { queue = shows.queue; budget = shows.budget; idle_timeout = shows.idle_timeout } in

@@ -25,6 +25,14 @@ in_front (Some f) fs = f ∷ fs
 abbrev pub waiting : Connection → List (List ℕ)
 waiting c = in_front c.front (frames c.framer)
 
+-- the octets of the stream that weren't taken, those of no whole frame too: the frame in front stands behind its length
+abbrev pub untaken_by : Option (List ℕ) → List ℕ → List ℕ
+untaken_by None o = o
+untaken_by (Some f) o = framed f ++ o
+
+abbrev pub untaken : Connection → List ℕ
+untaken c = untaken_by c.front c.framer
+
 -- it works for an event at this moment
 abbrev pub at_moment : ℕ → Connection → Connection
 at_moment at c = record c { invoker = record c.invoker { at = at } }
@@ -48,23 +56,38 @@ configured config c = record c {
 abbrev pub is_idle : ℕ → Connection → Bool
 is_idle now c = (c.transactions == 0) && is_expired c.timer c.invoker.idle_timeout now
 
--- all but the frames are as they were
+-- all but the octets are as they were
 pub record SameQueue (c d : Connection) : Type 0 where
   pub timer : d.timer ≡ c.timer
   pub write_timeout : d.write_timeout ≡ c.write_timeout
   pub invoker : d.invoker ≡ c.invoker
   pub transactions : d.transactions ≡ c.transactions
 
+-- the first frame is taken, and no octet behind it
+abbrev pub IsTaken : List ℕ → Connection → Connection → Type 0
+IsTaken f c d = (waiting c ≡ f ∷ waiting d) × (untaken c ≡ framed f ++ untaken d)
+
+-- no octet is taken
+abbrev pub NoneTaken : Connection → Connection → Type 0
+NoneTaken c d = (waiting d ≡ waiting c) × (untaken d ≡ untaken c)
+
+-- there was no memory: no octet is taken, and all else but the moment is as it was
+abbrev pub NothingDone : ℕ → Connection → Connection → Type 0
+NothingDone at c d = NoneTaken c d × SameQueue (at_moment at c) (at_moment at d)
+
+-- a query, or a response
+abbrev pub IsMessage : Bool → List ℕ → Type 0
+IsMessage qr f = (12 ≤ length f) × ((header_of f).qr ≡ qr)
+
 -- the first that waits is taken, or none waits, or it stays if the buffer is too short
 abbrev pub NextIs : ℕ → Connection → Connection → List ℕ → List ℕ → Next → Type 0
-NextIs at c d before after Waits = (waiting c ≡ []) × (waiting d ≡ []) × SameQueue c d × (after ≡ before)
-NextIs at c d before after (Query n) = (f : List ℕ) × (waiting c ≡ f ∷ waiting d) × (12 ≤ length f) × ((header_of f).qr ≡ false) × (n ≡ length f) × (n ≤ length before)
-    × (after ≡ f ++ drop n before) × (d.timer ≡ at) × (d.write_timeout ≡ c.write_timeout) × (d.invoker ≡ c.invoker) × (d.transactions ≡ c.transactions)
-NextIs at c d before after (NoRoom n) = (f : List ℕ) × (fs : List (List ℕ)) × (waiting c ≡ f ∷ fs) × (waiting d ≡ waiting c) × (12 ≤ length f) × ((header_of f).qr ≡ false)
+NextIs at c d before after Waits = (waiting c ≡ []) × NoneTaken c d × SameQueue c d × (after ≡ before)
+NextIs at c d before after (Query n) = (f : List ℕ) × IsTaken f c d × IsMessage false f
+    × (n ≡ length f) × (n ≤ length before) × (after ≡ f ++ drop n before) × SameQueue (record c { timer = at }) d
+NextIs at c d before after (NoRoom n) = (f : List ℕ) × (fs : List (List ℕ)) × (waiting c ≡ f ∷ fs) × NoneTaken c d × IsMessage false f
     × (n ≡ length f) × (length before < n) × SameQueue c d × (after ≡ before)
-NextIs at c d before after Response = (f : List ℕ) × (waiting c ≡ f ∷ waiting d) × (12 ≤ length f) × ((header_of f).qr ≡ true) × (after ≡ before) × (d.timer ≡ at)
-    × (d.write_timeout ≡ c.write_timeout) × (d.invoker ≡ (refusing at c f).invoker) × (d.transactions ≡ c.transactions)
-NextIs at c d before after Short = (f : List ℕ) × (waiting c ≡ f ∷ waiting d) × (length f < 12) × SameQueue c d × (after ≡ before)
+NextIs at c d before after Response = (f : List ℕ) × IsTaken f c d × IsMessage true f × SameQueue (refusing at c f) d × (after ≡ before)
+NextIs at c d before after Short = (f : List ℕ) × IsTaken f c d × (length f < 12) × SameQueue c d × (after ≡ before)
 
 -- a frame less waits to be written
 abbrev pub popped : Connection → Connection

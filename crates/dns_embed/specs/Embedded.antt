@@ -1,5 +1,5 @@
 -- What is decided about a message, whatever service is asked, and what becomes of a reply.
-use Rattle.std.specs.Prelude.{ℕ, ◌≡◌, ◌<◌, ◌⊎◌, List, length, nat_lt, Bool, true, false, if◌then◌else◌, Option, Some, None, Result, Ok, Err}
+use Rattle.std.specs.Prelude.{ℕ, ◌≡◌, ◌<◌, ◌≤◌, ◌⊎◌, List, length, nat_lt, Bool, true, false, if◌then◌else◌, Option, Some, None, Result, Ok, Err}
 use Rattle.dns_name.specs.declared.address.SocketAddr.{SocketAddr}
 use Rattle.dns_name.specs.declared.error.ParseError.{ParseError}
 use Rattle.dns_base.specs.Built.{Built}
@@ -85,7 +85,8 @@ IsOwn s v r b = (svc : Req (Unit {0}) → ℕ → Answer) (k : ℕ) → answers 
 
 -- whatever the service, the layers answer with what it gives to the request as they pass it on, rewritten
 abbrev pub IsAsked : Settings → Result (Unit {0}) NotifyError → Req (Unit {0}) → ReplyRule → Type 0
-IsAsked s v r rule = (svc : Req (Unit {0}) → ℕ → Answer) (k : ℕ) → answers s v svc r k ≡ mapped (rewritten (rewrite_by rule)) (svc (passed s r) k)
+IsAsked s v r rule = (svc : Req (Unit {0}) → ℕ → Answer) (k : ℕ)
+    → answers s v svc r k ≡ mapped (rewritten (rewrite_by rule)) (svc (passed s r) k)
 
 -- nothing is done exactly about what asks nothing, which are fewer octets than a header has, and a response
 abbrev pub IsDecided : Settings → Result (Unit {0}) NotifyError → Req (Unit {0}) → Action → Type 0
@@ -145,7 +146,7 @@ composed_of o = composed_by (reply_read o)
 
 -- a reply is rewritten; FormatError exactly if it has no header or can't be read, else InternalError exactly above 65,535 octets
 abbrev pub Rewrites : ReplyRule → List ℕ → Result Built ReplyError → Type 0
-Rewrites rule o (Ok b) = (m : Msg) × (composed_of o ≡ Ok m) × (b.message ≡ rewrite_by rule m)
+Rewrites rule o (Ok b) = (m : Msg) × (composed_of o ≡ Ok m) × (length (wire m) ≤ 65535) × (b.message ≡ rewrite_by rule m)
 Rewrites rule o (Err (Service FormatError)) = (length o < 12) ⊎ IsRefused (composed_of o)
 Rewrites rule o (Err (Service InternalError)) = (m : Msg) × (composed_of o ≡ Ok m) × (65535 < length (wire m))
 Rewrites rule o (Err (Service NotImplemented)) = ⊥

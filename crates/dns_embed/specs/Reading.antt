@@ -70,9 +70,12 @@ next_item section r = item_at section r.octets r.at
 -- the next item is read, or none is left, or it stays
 abbrev pub Reads : Reading → Reading → List ℕ → List ℕ → ReadItem → Type 0
 Reads r s before after End = (next_section r.left ≡ None) × (s ≡ r) × (after ≡ before)
-Reads r s before after (Item section n) = (o : List ℕ) × (end : ℕ) × (next_section r.left ≡ Some section) × (next_item section r ≡ Ok (o, end))
-    × (s ≡ record r { at = end; left = one_less section r.left }) × (n ≡ length o) × (n ≤ length before) × (after ≡ o ++ drop n before)
-Reads r s before after (NoRoom n) = (section : ItemSection) × (o : List ℕ) × (end : ℕ) × (next_section r.left ≡ Some section) × (next_item section r ≡ Ok (o, end))
-    × (s ≡ r) × (n ≡ length o) × (length before < n) × (after ≡ before)
-Reads r s before after Unreadable = (section : ItemSection) × (e : ParseError) × (next_section r.left ≡ Some section) × (next_item section r ≡ Err e)
-    × (s ≡ r) × (after ≡ before)
+Reads r s before after (Item section n) = (o : List ℕ) × (end : ℕ)
+    × (next_section r.left ≡ Some section) × (next_item section r ≡ Ok (o, end))
+    × (s ≡ record r { at = end; left = one_less section r.left })
+    × (n ≡ length o) × (n ≤ length before) × (after ≡ o ++ drop n before)
+Reads r s before after (NoRoom n) = (section : ItemSection) × (o : List ℕ) × (end : ℕ)
+    × (next_section r.left ≡ Some section) × (next_item section r ≡ Ok (o, end)) × (s ≡ r)
+    × (n ≡ length o) × (length before < n) × (after ≡ before)
+Reads r s before after Unreadable = (section : ItemSection) × (e : ParseError)
+    × (next_section r.left ≡ Some section) × (next_item section r ≡ Err e) × (s ≡ r) × (after ≡ before)

@@ -33,11 +33,11 @@ fate_of None i = None
 fate_of (Some m) i = Some (enqueued_by i m).1
 
 -- the connection and the request, which is so far, once that is heard, and with the frame
-abbrev pub invoker_told : ℕ → InvokerStatus → Heard → Connection → ConnectionInvoker
-invoker_told at status heard c = hearing heard (begun_with status (record c.invoker { at = at }))
+abbrev pub invoker_hearing : ℕ → InvokerStatus → Heard → Connection → ConnectionInvoker
+invoker_hearing at status heard c = hearing heard (begun_with status (record c.invoker { at = at }))
 
 abbrev pub invoker_given : ℕ → InvokerStatus → Heard → Option (List ℕ) → Connection → ConnectionInvoker
-invoker_given at status heard frame c = queueing frame (invoker_told at status heard c)
+invoker_given at status heard frame c = queueing frame (invoker_hearing at status heard c)
 
 -- how many are in a transaction, of which one was, or is now
 abbrev pub counted : ℕ → Bool → Bool → ℕ

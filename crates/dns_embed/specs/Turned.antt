@@ -20,7 +20,7 @@ use Rattle.dns_session.specs.Turns.{ends, turn_request}
 use Rattle.dns_embed.specs.declared.connection.Connection.{Connection}
 use Rattle.dns_embed.specs.declared.transactions.Heard.{Heard}
 use Rattle.dns_embed.specs.declared.transactions.Heard.TheVariants.{Nothing, Feedback, Failure}
-use Rattle.dns_embed.specs.Transactions.{fate_of, giving, hearing, invoker_told, queueing}
+use Rattle.dns_embed.specs.Transactions.{fate_of, giving, hearing, invoker_hearing, queueing}
 
 -- what is heard of an item
 abbrev pub heard_in : Option ServiceFeedback → Heard
@@ -68,7 +68,7 @@ GivesAsTurned = (answers : Serving) (at k : ℕ) (c : Connection) (s : Slate) (r
     → ShowsIn c.invoker s → r.held ≡ None → answers.answer r.request r.polls ≡ Ready (Some item)
     → let frame = frame_for r.request.octets item in
     let d = giving at r.status (heard_of item) frame c in
-    let held = kept_frame (fate_of frame (invoker_told at r.status (heard_of item) c)) frame r.held in
+    let held = kept_frame (fate_of frame (invoker_hearing at r.status (heard_of item) c)) frame r.held in
     (turn_request answers at k r.held r s ≡ shown_by k (past_item item d.invoker.status held r) d.invoker s)
     × ShowsIn d.invoker (turn_request answers at k r.held r s)
 
@@ -76,7 +76,7 @@ GivesAsTurned = (answers : Serving) (at k : ℕ) (c : Connection) (s : Slate) (r
 abbrev pub GivesHeldAsTurned : Type 0
 GivesHeldAsTurned = (answers : Serving) (at k : ℕ) (c : Connection) (s : Slate) (r : SlateRequest) (m : List ℕ)
     → ShowsIn c.invoker s → r.held ≡ Some m
-    → let told = invoker_told at r.status Nothing c in
+    → let i = invoker_hearing at r.status Nothing c in
     let d = giving at r.status Nothing (Some m) c in
-    (turn_request answers at k r.held r s ≡ (if finds_room told then shown_by k (record r { held = None }) d.invoker s else s))
+    (turn_request answers at k r.held r s ≡ (if finds_room i then shown_by k (record r { held = None }) d.invoker s else s))
     × ShowsIn d.invoker (turn_request answers at k r.held r s)

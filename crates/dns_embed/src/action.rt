@@ -97,12 +97,12 @@ fn taken(
     match decision {
         Decision::Own(reply) => Ok(Action::Reply(reply)),
         Decision::Passed(_) => Ok(Action::Ask(ReplyRule::of(speaks_edns, request))),
-        Decision::Asking(stream, rule) => told(alloc, stream, rule),
+        Decision::Asking(stream, rule) => verdict_reply(alloc, stream, rule),
     }
 }
 
 /// The reply by a verdict, which is there at once.
-fn told(
+fn verdict_reply(
     alloc: Global,
     stream: AskStream<KnownVerdict>,
     rule: WrapPost,

@@ -7,8 +7,8 @@ ghost use Rattle.dns_framing.specs.Frames.{framed};
 ghost use Rattle.dns_framing.specs.Invoker.{finds_room, offered};
 ghost use Rattle.dns_framing.specs.Timers.{deadline};
 ghost use Rattle.dns_service.specs.declared.invoker.InvokerStatus.{InvokerStatus as TheStatus};
-ghost use Rattle.dns_embed.specs.Connections.{NextIs, WriteIs, at_moment, configured, is_idle, offering, refusing, waiting};
-ghost use Rattle.dns_embed.specs.Transactions.{fate_of, frame_in, giving, invoker_given, invoker_told};
+ghost use Rattle.dns_embed.specs.Connections.{NextIs, NothingDone, WriteIs, at_moment, configured, is_idle, offering, refusing, untaken, waiting};
+ghost use Rattle.dns_embed.specs.Transactions.{fate_of, frame_in, giving, invoker_given, invoker_hearing};
 
 use crate::buffer::put;
 use crate::transactions::{Heard, enqueue, frame, frame_in, hear, recount};
@@ -112,7 +112,7 @@ impl Connection {
     /// taken resets the timer (RFC 7766, section 6.2.3). If there is no memory no frame is taken.
     pub fn next(&mut self, alloc: Global, at: u64, buffer: &mut [u8]) -> Result<Next, OutOfMemory>
         ensures next { IfOk result (NextIs at self.old self.new buffer.old buffer.new) }
-        ensures err { OnErr result ((waiting self.new ≡ waiting self.old) × (buffer.new ≡ buffer.old)) }
+        ensures err { OnErr result (NothingDone at self.old self.new × (buffer.new ≡ buffer.old)) }
     {
         self.look(alloc)?;
         let Some(octets) = self.front.take() else {
@@ -138,6 +138,7 @@ impl Connection {
     /// Looks at the next frame, if all of it came.
     fn look(&mut self, alloc: Global) -> Result<(), OutOfMemory>
         ensures same { waiting self.new ≡ waiting self.old }
+        ensures octets { untaken self.new ≡ untaken self.old }
         ensures here { OnOk result (self.new.front ≡ None → waiting self.new ≡ []) }
         ensures timer { self.new.timer ≡ self.old.timer }
         ensures write_timeout { self.new.write_timeout ≡ self.old.write_timeout }
@@ -161,7 +162,7 @@ impl Connection {
     fn refuse(&mut self, alloc: Global, at: u64, message: Message) -> Result<(), OutOfMemory>
         requires { self.old.front ≡ None }
         ensures ok { OnOk result (self.new ≡ refusing at self.old message) }
-        ensures err { OnErr result (waiting self.new ≡ waiting (record self.old { front = Some message })) }
+        ensures err { OnErr result (self.new ≡ record (at_moment at self.old) { front = Some message }) }
     {
         self.invoker.set_moment(at);
         if !self.invoker.finds_room() {
@@ -211,7 +212,7 @@ impl Connection {
     ) -> Result<(InvokerStatus, Option<Enqueued>), OutOfMemory>
         requires { length reply.now ≤ 65535 }
         ensures status { IfOk result (λ g. g.0 ≡ (invoker_given at status heard (frame_in reply.now) self.old).status) }
-        ensures fate { IfOk result (λ g. g.1 ≡ fate_of (frame_in reply.now) (invoker_told at status heard self.old)) }
+        ensures fate { IfOk result (λ g. g.1 ≡ fate_of (frame_in reply.now) (invoker_hearing at status heard self.old)) }
         ensures ok { OnOk result (self.new ≡ giving at status heard (frame_in reply.now) self.old) }
         ensures err { OnErr result (self.new ≡ self.old) }
     {

@@ -23,7 +23,7 @@ pub fn asked_and_rewritten_is_answered()
 {}
 
 /// Whoever gives a connection what its request's service gave turns it as the rules for one client do (dns_session's `turn`): what is
-/// queued, spent, held and told is the same, whatever the answers of other requests are.
+/// queued, spent, held and sent is the same, whatever the answers of other requests are.
 pub fn what_is_given_is_a_turn()
     ensures item { GivesAsTurned }
     ensures held { GivesHeldAsTurned }

@@ -4,8 +4,9 @@
 //!   reply that is sent, or a question to the caller's service. `decide_datagram` does it as a server over datagrams.
 //! - `rewrite_message` makes the octets of a service's reply the reply that is sent, by the `ReplyRule` of its request.
 //!   `refuse_message` is what is sent if the service fails.
-//! - `Connection` takes the octets of a stream and gives its queries. It queues replies, and says when it was idle for
-//!   too long.
+//! - `Connection` takes the octets of a stream and gives its queries. It queues replies, keeps transactions, and says when
+//!   it was idle for too long.
+//! - `MessageReader` reads a message item by item, names uncompressed.
 //! - `read_settings` reads settings from a text.
 //!
 //! It does no input and output, and knows no clock. The crate `nutscythe_c` gives it to callers from C.
@@ -22,7 +23,10 @@
 //! - To ask a service as was decided and to send its reply rewritten is to send what the layers answer round a service
 //!   that gives this reply (`asked_and_rewritten_is_answered`).
 //! - A message is ignored exactly if it is shorter than a header or, over a stream or by `decide_message`, a response.
-//! - A connection gives each frame once and in order. It queues a reply exactly if there is room in queue and budget.
+//! - A connection gives each frame once and in order, and keeps the octets of no whole frame. It queues a reply exactly if
+//!   there is room in queue and budget.
+//! - What a service gives to a connection turns it as the rules for one client do (`what_is_given_is_a_turn`).
+//! - A reader gives each item once and in order, or the one that can't be read.
 //!
 //! # What a body could still get away with
 //!

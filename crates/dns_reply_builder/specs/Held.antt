@@ -27,7 +27,8 @@ AddsTo section r Lost after result = (result ≡ Err Order) × (after ≡ Lost)
 
 -- and so is an option
 abbrev pub AddsOptionTo : ℕ → List ℕ → ServiceReply → ServiceReply → Result (Unit {0}) AddError → Type 0
-AddsOptionTo code d (Begun b) after result = (c : ReplyBuilder) × (after ≡ Begun c) × (stage_of c ≡ 2) × OptionAdded code d (built_of b) (built_of c) result
+AddsOptionTo code d (Begun b) after result = (c : ReplyBuilder) × (after ≡ Begun c) × (stage_of c ≡ 2)
+    × OptionAdded code d (built_of b) (built_of c) result
 AddsOptionTo code d (Rewritten m) after result = (result ≡ Err Order) × (after ≡ Rewritten m)
 AddsOptionTo code d Lost after result = (result ≡ Err Order) × (after ≡ Lost)
 

@@ -65,30 +65,38 @@ record_by o (Err e) = Err e
 abbrev pub record_alone : List ℕ → Result ResourceRecord ParseError
 record_alone o = record_by o (standing_at o 0)
 
--- what a push told
-abbrev pub Told : Result (Unit {0}) PushError → Result (Unit {0}) AddError → Type 0
-Told (Ok u) result = result ≡ Ok tt
-Told (Err ShortBuf) result = result ≡ Err TooLong
-Told (Err NoPushMemory) result = result ≡ Err OutOfMemory
+-- the result of an addition, by that of the push
+abbrev pub AddedAs : Result (Unit {0}) PushError → Result (Unit {0}) AddError → Type 0
+AddedAs (Ok u) result = result ≡ Ok tt
+AddedAs (Err ShortBuf) result = result ≡ Err TooLong
+AddedAs (Err NoPushMemory) result = result ≡ Err OutOfMemory
 
--- a record stands last in its section; Order exactly if a later section was begun, TooLong exactly above the limit
+-- the section and what is built so far stay
+abbrev pub SameReply : ReplyBuilder → ReplyBuilder → Type 0
+SameReply b c = (stage_of c ≡ stage_of b) × (built_of c ≡ built_of b)
+
+-- a record stands last in its section; Order exactly if another section was begun last, TooLong exactly above the limit
 abbrev pub PushesAt : Section → ResourceRecord → ReplyBuilder → ReplyBuilder → Result (Unit {0}) AddError → Type 0
-PushesAt section r b c (Ok u) = (stage_of b ≡ place_of section) × (stage_of c ≡ stage_of b) × (built_of c ≡ with_record section (built_of b) r)
+PushesAt section r b c (Ok u) =
+    (stage_of b ≡ place_of section) × (stage_of c ≡ stage_of b) × (built_of c ≡ with_record section (built_of b) r)
 PushesAt section r b c (Err Order) = ((stage_of b ≡ place_of section) → ⊥) × (c ≡ b)
-PushesAt section r b c (Err TooLong) = (stage_of c ≡ stage_of b) × (built_of c ≡ built_of b) × PassesLimit (with_record section (built_of b) r)
-PushesAt section r b c (Err OutOfMemory) = (stage_of c ≡ stage_of b) × (built_of c ≡ built_of b)
+PushesAt section r b c (Err TooLong) = SameReply b c × PassesLimit (with_record section (built_of b) r)
+PushesAt section r b c (Err OutOfMemory) = SameReply b c
 PushesAt section r b c (Err Unreadable) = ⊥
 
--- a record is added, and its section begun; a refused one begins it too
+-- a record is added, and its section begun; a refused one begins it too; Unreadable comes first
 abbrev pub AddsBuilt : Section → List ℕ → Built → ℕ → Built → Result (Unit {0}) AddError → Type 0
-AddsBuilt section o b stage c (Ok u) = (r : ResourceRecord) × (record_alone o ≡ Ok r) × (stage ≡ place_of section) × (c ≡ with_record section b r)
-AddsBuilt section o b stage c (Err Unreadable) = ((e : ParseError) × (record_alone o ≡ Err e)) × (c ≡ b)
-AddsBuilt section o b stage c (Err Order) = ((stage ≡ place_of section) → ⊥) × (c ≡ b)
-AddsBuilt section o b stage c (Err TooLong) = ((r : ResourceRecord) × (record_alone o ≡ Ok r) × PassesLimit (with_record section b r)) × (c ≡ b)
+AddsBuilt section o b stage c (Ok u) =
+    (r : ResourceRecord) × (record_alone o ≡ Ok r) × (stage ≡ place_of section) × (c ≡ with_record section b r)
+AddsBuilt section o b stage c (Err Unreadable) = (e : ParseError) × (record_alone o ≡ Err e) × (c ≡ b)
+AddsBuilt section o b stage c (Err Order) = (r : ResourceRecord) × (record_alone o ≡ Ok r) × ((stage ≡ place_of section) → ⊥) × (c ≡ b)
+AddsBuilt section o b stage c (Err TooLong) =
+    (r : ResourceRecord) × (record_alone o ≡ Ok r) × PassesLimit (with_record section b r) × (c ≡ b)
 AddsBuilt section o b stage c (Err OutOfMemory) = c ≡ b
 
 abbrev pub Adds : Section → List ℕ → ReplyBuilder → ReplyBuilder → Result (Unit {0}) AddError → Type 0
-Adds section o b c result = (stage_of c ≡ stage_onward section b) × AddsBuilt section o (built_of b) (stage_onward section b) (built_of c) result
+Adds section o b c result =
+    (stage_of c ≡ stage_onward section b) × AddsBuilt section o (built_of b) (stage_onward section b) (built_of c) result
 
 -- a record whose name and data are borrowed
 abbrev pub plain_record : PlainRecord → ResourceRecord
@@ -108,8 +116,10 @@ AddsRecord section r b stage c (Err OutOfMemory) = c ≡ b
 
 -- an option more: TooLong exactly if the option list would pass 65,535 octets, or the message its limit
 abbrev pub OptionAdded : ℕ → List ℕ → Built → Built → Result (Unit {0}) AddError → Type 0
-OptionAdded code d b c (Ok u) = (c ≡ record b { message = with_option b.message code d }) × (length (wire (optioned b.message code d)) ≤ b.limit)
+OptionAdded code d b c (Ok u) =
+    (c ≡ record b { message = with_option b.message code d }) × (length (wire (optioned b.message code d)) ≤ b.limit)
 OptionAdded code d b c (Err Unreadable) = ⊥
 OptionAdded code d b c (Err Order) = ⊥
-OptionAdded code d b c (Err TooLong) = ((65535 < length (old_opt b.message).options + 4 + length d) ⊎ (b.limit < length (wire (optioned b.message code d)))) × (c ≡ b)
+OptionAdded code d b c (Err TooLong) =
+    ((65535 < length (old_opt b.message).options + 4 + length d) ⊎ (b.limit < length (wire (optioned b.message code d)))) × (c ≡ b)
 OptionAdded code d b c (Err OutOfMemory) = c ≡ b

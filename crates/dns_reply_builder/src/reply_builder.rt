@@ -3,7 +3,7 @@
 ghost use Rattle.std.specs.Prelude.{◌≡◌, ◌≤◌, length, IfOk};
 ghost use Rattle.dns_base.specs.Standing.{GivesParsed};
 ghost use Rattle.dns_embed.specs.Embedded.{rewrite_by};
-ghost use Rattle.dns_reply_builder.specs.Replying.{Adds, AddsBuilt, AddsRecord, Begins, OptionAdded, PushesAt, Told, built_of, plain_record, record_alone, stage_of, stage_onward};
+ghost use Rattle.dns_reply_builder.specs.Replying.{AddedAs, Adds, AddsBuilt, AddsRecord, Begins, OptionAdded, PushesAt, built_of, plain_record, record_alone, stage_of, stage_onward};
 
 use crate::plain_record::PlainRecord;
 use dns_base::{
@@ -130,7 +130,8 @@ impl ReplyBuilder {
     ) -> (ReplyBuilder, Result<(), AddError>)
         requires { length added.now.rdata.now ≤ 65535 }
         ensures stage { stage_of result.0 ≡ stage_onward section self }
-        ensures added { AddsRecord section (plain_record added.now) (built_of self) (stage_onward section self) (built_of result.0) result.1 }
+        ensures added { AddsRecord section (plain_record added.now) (built_of self) (stage_onward section self)
+            (built_of result.0) result.1 }
     {
         let mut reply = self.onward(section);
         let pushed = reply.push(alloc, section, added);
@@ -166,15 +167,15 @@ impl ReplyBuilder {
     {
         match self {
             ReplyBuilder::Answer(reply) => match section {
-                Section::Answer => told(reply.push_composed(alloc, added)),
+                Section::Answer => added_as(reply.push_composed(alloc, added)),
                 _ => Err(AddError::Order),
             },
             ReplyBuilder::Authority(reply) => match section {
-                Section::Authority => told(reply.push_composed(alloc, added)),
+                Section::Authority => added_as(reply.push_composed(alloc, added)),
                 _ => Err(AddError::Order),
             },
             ReplyBuilder::Additional(reply) => match section {
-                Section::Additional => told(reply.push_composed(alloc, added)),
+                Section::Additional => added_as(reply.push_composed(alloc, added)),
                 _ => Err(AddError::Order),
             },
         }
@@ -213,9 +214,9 @@ fn push_option(
     }
 }
 
-/// What a push told.
-fn told(pushed: Result<(), PushError>) -> Result<(), AddError>
-    ensures { Told pushed result }
+/// The result of an addition, by that of the push.
+fn added_as(pushed: Result<(), PushError>) -> Result<(), AddError>
+    ensures { AddedAs pushed result }
 {
     match pushed {
         Ok(()) => Ok(()),

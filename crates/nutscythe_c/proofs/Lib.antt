@@ -1,3 +1,4 @@
 pub mod Hands
 pub mod Values
 pub mod Objects
+mod Ranges

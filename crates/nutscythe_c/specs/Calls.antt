@@ -71,7 +71,7 @@ SameOutput w x = (x.reply ≡ w.reply) × (x.len ≡ w.len) × (x.rule ≡ w.rul
 abbrev pub Acts : Action → Output → Output → Status → Type 0
 Acts DoNothing w x t = (t ≡ Nothing) × SameOutput w x
 Acts (SendReply b) w x t = PutsReply b.message w.reply x.reply x.len t × (x.rule ≡ w.rule)
-Acts (AskService asked) w x t = (t ≡ Ask) × (rule_in x.rule ≡ asked) × (x.reply ≡ w.reply) × (x.len ≡ w.len)
+Acts (AskService asked) w x t = (t ≡ Ask) × (rule_in x.rule ≡ asked) × (x.rule.spare ≡ 0) × (x.reply ≡ w.reply) × (x.len ≡ w.len)
 
 -- a call gave this status, and nothing is written
 abbrev pub Stays : Status → Output → Output → Status → Type 0
@@ -93,9 +93,11 @@ DecidesBy (Some (KeptSettings s)) arrival known o w x t = DecidesIn s arrival kn
 DecidesBy kept arrival known o w x t = Stays NoHandle w x t
 
 -- by a length and a rule that may not be given
-abbrev pub DecidesAt : Option Kept → Option Arrival → Option KnownVerdict → List ℕ → List ℕ → List ℕ → List ℕ → List ℕ → List Rule → List Rule → Status → Type 0
+abbrev pub DecidesAt : Option Kept → Option Arrival → Option KnownVerdict → List ℕ → List ℕ → List ℕ → List ℕ → List ℕ
+    → List Rule → List Rule → Status → Type 0
 DecidesAt kept arrival known o before after lens lens' rules rules' t =
-    OfFirst lens lens' (λ n l. OfFirst rules rules' (λ r p. DecidesBy kept arrival known o (output before n r) (output after l p) t) (t ≡ NullPointer)) (t ≡ NullPointer)
+    OfFirst lens lens' (λ n l. OfFirst rules rules' (λ r p.
+    DecidesBy kept arrival known o (output before n r) (output after l p) t) (t ≡ NullPointer)) (t ≡ NullPointer)
 
 -- what is decided about a datagram, as it was cut, is done, unless there was no memory
 abbrev pub Exchanges : Settings → Result (Unit {0}) NotifyError → SocketAddr → ℕ → ℕ → List ℕ → Output → Output → Status → Type 0
@@ -111,23 +113,30 @@ ExchangesBy (Some (KeptSettings s)) origin addr known o w x t = ExchangesIn s or
 ExchangesBy kept origin addr known o w x t = Stays NoHandle w x t
 
 -- by a length and a rule that may not be given
-abbrev pub ExchangesAt : Option Kept → Origin → Option SocketAddr → Option KnownVerdict → List ℕ → List ℕ → List ℕ → List ℕ → List ℕ → List Rule → List Rule → Status → Type 0
+abbrev pub ExchangesAt : Option Kept → Origin → Option SocketAddr → Option KnownVerdict → List ℕ → List ℕ → List ℕ → List ℕ → List ℕ
+    → List Rule → List Rule → Status → Type 0
 ExchangesAt kept origin addr known o before after lens lens' rules rules' t =
-    OfFirst lens lens' (λ n l. OfFirst rules rules' (λ r p. ExchangesBy kept origin addr known o (output before n r) (output after l p) t) (t ≡ NullPointer)) (t ≡ NullPointer)
+    OfFirst lens lens' (λ n l. OfFirst rules rules' (λ r p.
+    ExchangesBy kept origin addr known o (output before n r) (output after l p) t) (t ≡ NullPointer)) (t ≡ NullPointer)
 
 -- what is done with a reply
 abbrev pub Rewrites : ReplyRule → List ℕ → List ℕ → List ℕ → ℕ → ℕ → Status → Type 0
-Rewrites p o before after len len' Reply = (m : Msg) × (composed_of o ≡ Ok m) × PutsReply (rewrite_by p m) before after len' Reply
-Rewrites p o before after len len' NoRoom = (m : Msg) × (composed_of o ≡ Ok m) × PutsReply (rewrite_by p m) before after len' NoRoom
+Rewrites p o before after len len' Reply = (m : Msg) × (composed_of o ≡ Ok m) × (length (wire m) ≤ 65535)
+    × PutsReply (rewrite_by p m) before after len' Reply
+Rewrites p o before after len len' NoRoom = (m : Msg) × (composed_of o ≡ Ok m) × (length (wire m) ≤ 65535)
+    × PutsReply (rewrite_by p m) before after len' NoRoom
 Rewrites p o before after len len' Unreadable = ((length o < 12) ⊎ IsRefused (composed_of o)) × Unwritten before after len len'
-Rewrites p o before after len len' TooLong = ((m : Msg) × (composed_of o ≡ Ok m) × (65535 < length (wire m))) × Unwritten before after len len'
+Rewrites p o before after len len' TooLong = ((m : Msg) × (composed_of o ≡ Ok m) × (65535 < length (wire m)))
+    × Unwritten before after len len'
 Rewrites p o before after len len' NoMemory = Unwritten before after len len'
 Rewrites p o before after len len' t = ⊥
 
 -- what is done about a request whose service fails
 abbrev pub Refuses : ReplyRule → List ℕ → ServiceError → List ℕ → List ℕ → ℕ → ℕ → Status → Type 0
-Refuses p o error before after len len' Reply = (b : Built) × IsErrorReply p o error (Some b) × PutsReply b.message before after len' Reply
-Refuses p o error before after len len' NoRoom = (b : Built) × IsErrorReply p o error (Some b) × PutsReply b.message before after len' NoRoom
+Refuses p o error before after len len' Reply = (b : Built) × IsErrorReply p o error (Some b)
+    × PutsReply b.message before after len' Reply
+Refuses p o error before after len len' NoRoom = (b : Built) × IsErrorReply p o error (Some b)
+    × PutsReply b.message before after len' NoRoom
 Refuses p o error before after len len' Unreadable = (length o < 12) × Unwritten before after len len'
 Refuses p o error before after len len' NoMemory = Unwritten before after len len'
 Refuses p o error before after len len' t = ⊥

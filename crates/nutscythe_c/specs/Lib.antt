@@ -4,6 +4,7 @@ pub mod Origins
 pub mod Rules
 pub mod Calls
 pub mod Setters
+pub mod Servers
 pub mod Streams
 pub mod Replies
 pub mod Readings

@@ -26,7 +26,8 @@ section_number Additional = 3
 
 -- the next item is read, and its section and length are written
 abbrev pub Takes : Reading → Reading → List ℕ → List ℕ → ℕ → ℕ → ℕ → ℕ → Status → Type 0
-Takes r s before after len len' section section' Done = (place : ItemSection) × Reads r s before after (Item place len') × (section' ≡ section_number place)
+Takes r s before after len len' section section' Done = (place : ItemSection) × Reads r s before after (Item place len')
+    × (section' ≡ section_number place)
 Takes r s before after len len' section section' Nothing = Reads r s before after End × (len' ≡ len) × (section' ≡ section)
 Takes r s before after len len' section section' NoRoom = Reads r s before after (TooShort len') × (section' ≡ section)
 Takes r s before after len len' section section' Unreadable = Reads r s before after NotRead × (len' ≡ len) × (section' ≡ section)
@@ -34,5 +35,7 @@ Takes r s before after len len' section section' NoMemory = (s ≡ r) × Unwritt
 Takes r s before after len len' section section' t = ⊥
 
 abbrev pub TakesBy : Option Kept → Option Kept → List ℕ → List ℕ → ℕ → ℕ → ℕ → ℕ → Status → Type 0
-TakesBy (Some (KeptReader r)) kept before after len len' section section' t = (s : Reading) × (kept ≡ Some (KeptReader s)) × Takes r s before after len len' section section' t
-TakesBy held kept before after len len' section section' t = (t ≡ NoHandle) × (kept ≡ held) × Unwritten before after len len' × (section' ≡ section)
+TakesBy (Some (KeptReader r)) kept before after len len' section section' t = (s : Reading) × (kept ≡ Some (KeptReader s))
+    × Takes r s before after len len' section section' t
+TakesBy held kept before after len len' section section' t = (t ≡ NoHandle) × (kept ≡ held)
+    × Unwritten before after len len' × (section' ≡ section)

@@ -34,7 +34,8 @@ rcode_of n = if nat_lt 15 n then None else Some n
 
 -- a reply is begun and held
 abbrev pub BeginsHeld : List ℕ → ℕ → Bool → Option Kept → Option Kept → Status → Type 0
-BeginsHeld query rcode aa before after Done = (reply : ServiceReply) × BeginsReply query rcode aa (Some reply) × (after ≡ Some (KeptReply reply))
+BeginsHeld query rcode aa before after Done = (reply : ServiceReply) × BeginsReply query rcode aa (Some reply)
+    × (after ≡ Some (KeptReply reply))
 BeginsHeld query rcode aa before after Unreadable = (length query < 12) × (after ≡ before)
 BeginsHeld query rcode aa before after NoMemory = after ≡ before
 BeginsHeld query rcode aa before after t = ⊥
@@ -66,7 +67,8 @@ added_status (Err Add.OutOfMemory) = NoMemory
 -- a record is added to the reply that a handle holds
 abbrev pub AddsHeld : Section → ResourceRecord → Option Kept → Option Kept → Status → Type 0
 AddsHeld section r (Some (KeptReply a)) after t =
-    (b : ServiceReply) × (result : Result (Unit {0}) AddError) × (after ≡ Some (KeptReply b)) × AddsTo section r a b result × (t ≡ added_status result)
+    (b : ServiceReply) × (result : Result (Unit {0}) AddError) × (after ≡ Some (KeptReply b))
+    × AddsTo section r a b result × (t ≡ added_status result)
 AddsHeld section r before after t = (t ≡ NoHandle) × (after ≡ before)
 
 abbrev pub AddsBy : Option Section → Result ResourceRecord Status → Option Kept → Option Kept → Status → Type 0
@@ -77,7 +79,8 @@ AddsBy (Some section) (Ok r) before after t = AddsHeld section r before after t
 -- and so is an option
 abbrev pub AddsOption : ℕ → List ℕ → Option Kept → Option Kept → Status → Type 0
 AddsOption code d (Some (KeptReply a)) after t =
-    (b : ServiceReply) × (result : Result (Unit {0}) AddError) × (after ≡ Some (KeptReply b)) × AddsOptionTo code d a b result × (t ≡ added_status result)
+    (b : ServiceReply) × (result : Result (Unit {0}) AddError) × (after ≡ Some (KeptReply b))
+    × AddsOptionTo code d a b result × (t ≡ added_status result)
 AddsOption code d before after t = (t ≡ NoHandle) × (after ≡ before)
 
 -- a reply is sent as its rule rewrites it, or as it was rewritten before
@@ -86,8 +89,10 @@ ShowsReply (Some m) before after len len' t = PutsReply m.message before after l
 ShowsReply None before after len len' t = (t ≡ NoMemory) × Unwritten before after len len'
 
 abbrev pub WritesReply : ReplyRule → ServiceReply → ServiceReply → List ℕ → List ℕ → ℕ → ℕ → Status → Type 0
-WritesReply rule a b before after len len' t = (result : Result (Unit {0}) NoneLeft) × RewritesTo rule a b result × ShowsReply (rewritten_in b) before after len len' t
+WritesReply rule a b before after len len' t = (result : Result (Unit {0}) NoneLeft) × RewritesTo rule a b result
+    × ShowsReply (rewritten_in b) before after len len' t
 
 abbrev pub WritesBy : ReplyRule → Option Kept → Option Kept → List ℕ → List ℕ → ℕ → ℕ → Status → Type 0
-WritesBy rule (Some (KeptReply a)) kept before after len len' t = (b : ServiceReply) × (kept ≡ Some (KeptReply b)) × WritesReply rule a b before after len len' t
+WritesBy rule (Some (KeptReply a)) kept before after len len' t = (b : ServiceReply) × (kept ≡ Some (KeptReply b))
+    × WritesReply rule a b before after len len' t
 WritesBy rule held kept before after len len' t = (t ≡ NoHandle) × (kept ≡ held) × Unwritten before after len len'

@@ -35,7 +35,8 @@ reason_number Zone = 7
 -- the settings of a text are held, or its first bad line is said
 abbrev pub ReadsText : List ℕ → Option Kept → Option Kept → LineRefusal → LineRefusal → Status → Type 0
 ReadsText text before after b c Done = (s : Settings) × (settings_in text ≡ Ok s) × (after ≡ Some (KeptSettings s)) × (c ≡ b)
-ReadsText text before after b c BadLine = (r : Reason) × (settings_in text ≡ Err (c.line, r)) × (c.reason ≡ reason_number r) × (after ≡ before)
+ReadsText text before after b c BadLine = (r : Reason) × (settings_in text ≡ Err (c.line, r)) × (c.reason ≡ reason_number r)
+    × (after ≡ before)
 ReadsText text before after b c NoMemory = (after ≡ before) × (c ≡ b)
 ReadsText text before after b c t = ⊥
 
@@ -45,7 +46,8 @@ HasSecret true secret s after t = (t ≡ Done) × (after ≡ record s { cookies 
 HasSecret false secret s after t = (t ≡ OutOfRange) × (after ≡ s)
 
 abbrev pub SetsCookies : List ℕ → Option Kept → Option Kept → Status → Type 0
-SetsCookies secret (Some (KeptSettings s)) after t = (made : Settings) × (after ≡ Some (KeptSettings made)) × HasSecret (length secret == 16) secret s made t
+SetsCookies secret (Some (KeptSettings s)) after t = (made : Settings) × (after ≡ Some (KeptSettings made))
+    × HasSecret (length secret == 16) secret s made t
 SetsCookies secret before after t = (t ≡ NoHandle) × (after ≡ before)
 
 -- an address more is denied, if it is one
@@ -56,7 +58,8 @@ PushesDenied (Some ip) before after t = ⊥
 PushesDenied None before after t = (t ≡ OutOfRange) × (after ≡ before)
 
 abbrev pub Denies : Option IpAddr → Option Kept → Option Kept → Status → Type 0
-Denies ip (Some (KeptSettings s)) after t = (denied : List IpAddr) × (after ≡ Some (KeptSettings (record s { denied = denied }))) × PushesDenied ip s.denied denied t
+Denies ip (Some (KeptSettings s)) after t = (denied : List IpAddr) × (after ≡ Some (KeptSettings (record s { denied = denied })))
+    × PushesDenied ip s.denied denied t
 Denies ip before after t = (t ≡ NoHandle) × (after ≡ before)
 
 -- another handle holds the same settings

@@ -12,7 +12,7 @@ use Rattle.dns_embed.specs.declared.connection.Connection.{Connection}
 use Rattle.dns_embed.specs.declared.connection.Next.TheVariants.{Waits, Query, NoRoom as TooShort, Response as Answered, Short}
 use Rattle.dns_embed.specs.declared.connection.Written.{Written}
 use Rattle.dns_embed.specs.declared.connection.Written.TheVariants as Write
-use Rattle.dns_embed.specs.Connections.{NextIs, WriteIs, at_moment, is_idle, offering, waiting}
+use Rattle.dns_embed.specs.Connections.{NextIs, NothingDone, WriteIs, at_moment, is_idle, offering}
 use Rattle.nutscythe_c.specs.declared.kept.Kept.{Kept}
 use Rattle.nutscythe_c.specs.declared.kept.Kept.TheVariants.{Settings as KeptSettings, Connection as KeptConnection}
 use Rattle.nutscythe_c.specs.declared.status.Status.{Status}
@@ -63,11 +63,12 @@ Given at c d before after len len' Nothing = NextIs at c d before after Waits ×
 Given at c d before after len len' NoRoom = NextIs at c d before after (TooShort len')
 Given at c d before after len len' Response = NextIs at c d before after Answered × (len' ≡ len)
 Given at c d before after len len' Close = NextIs at c d before after Short × (len' ≡ len)
-Given at c d before after len len' NoMemory = (waiting d ≡ waiting c) × Unwritten before after len len'
+Given at c d before after len len' NoMemory = NothingDone at c d × Unwritten before after len len'
 Given at c d before after len len' t = ⊥
 
 abbrev pub Gives : ℕ → Option Kept → Option Kept → List ℕ → List ℕ → ℕ → ℕ → Status → Type 0
-Gives at (Some (KeptConnection c)) kept before after len len' t = (d : Connection) × (kept ≡ Some (KeptConnection d)) × Given at c d before after len len' t
+Gives at (Some (KeptConnection c)) kept before after len len' t = (d : Connection) × (kept ≡ Some (KeptConnection d))
+    × Given at c d before after len len' t
 Gives at held kept before after len len' t = (t ≡ NoHandle) × (kept ≡ held) × Unwritten before after len len'
 
 -- a reply is queued exactly if there is room for its frame

@@ -8,7 +8,7 @@ use Rattle.dns_service.specs.declared.service.ServiceFeedback.TheVariants.{Recon
 use Rattle.dns_embed.specs.declared.connection.Connection.{Connection}
 use Rattle.dns_embed.specs.declared.transactions.Heard.{Heard}
 use Rattle.dns_embed.specs.declared.transactions.Heard.TheVariants.{Nothing as HeardNothing, Feedback, Failure}
-use Rattle.dns_embed.specs.Transactions.{fate_of, frame_in, giving, invoker_given, invoker_told}
+use Rattle.dns_embed.specs.Transactions.{fate_of, frame_in, giving, invoker_given, invoker_hearing}
 use Rattle.nutscythe_c.specs.declared.kept.Kept.{Kept}
 use Rattle.nutscythe_c.specs.declared.kept.Kept.TheVariants.{Connection as KeptConnection}
 use Rattle.nutscythe_c.specs.declared.status.Status.{Status}
@@ -47,7 +47,8 @@ abbrev pub Given : ℕ → InvokerStatus → Heard → List ℕ → Connection �
 Given at state h o c d n n' TooLong = (65535 < length o) × (d ≡ c) × (n' ≡ n)
 Given at state h o c d n n' NoMemory = (d ≡ c) × (n' ≡ n)
 Given at state h o c d n n' t = (length o ≤ 65535) × (d ≡ giving at state h (frame_in o) c)
-    × (n' ≡ state_number (invoker_given at state h (frame_in o) c).status) × (t ≡ fate_status (fate_of (frame_in o) (invoker_told at state h c)))
+    × (n' ≡ state_number (invoker_given at state h (frame_in o) c).status)
+    × (t ≡ fate_status (fate_of (frame_in o) (invoker_hearing at state h c)))
 
 -- one that ended with an error is done, and nothing is heard of it any more
 abbrev pub GivenTo : ℕ → InvokerStatus → Heard → List ℕ → Connection → Connection → ℕ → ℕ → Status → Type 0
@@ -56,7 +57,8 @@ GivenTo at InTransaction h o c d n n' t = Given at InTransaction h o c d n n' t
 GivenTo at Aborting h o c d n n' t = (t ≡ Nothing) × (d ≡ c) × (n' ≡ n)
 
 abbrev pub GivesTo : ℕ → InvokerStatus → Heard → List ℕ → Option Kept → Option Kept → ℕ → ℕ → Status → Type 0
-GivesTo at state h o (Some (KeptConnection c)) after n n' t = (d : Connection) × (after ≡ Some (KeptConnection d)) × GivenTo at state h o c d n n' t
+GivesTo at state h o (Some (KeptConnection c)) after n n' t = (d : Connection) × (after ≡ Some (KeptConnection d))
+    × GivenTo at state h o c d n n' t
 GivesTo at state h o before after n n' t = (t ≡ NoHandle) × (after ≡ before) × (n' ≡ n)
 
 -- by numbers that may be out of range

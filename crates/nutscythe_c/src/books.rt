@@ -20,7 +20,8 @@ pub extern "C" fn nutscythe_raw_book_open(
     settings: &mut [Handle],
     book: &mut [Handle],
 ) -> u32
-    ensures { (t : TheStatus) × (result ≡ number t) × OfFirst settings.old settings.new (λ h i. (i.kept ≡ h.kept) × OfFirst book.old book.new
+    ensures { (t : TheStatus) × (result ≡ number t)
+        × OfFirst settings.old settings.new (λ h i. (i.kept ≡ h.kept) × OfFirst book.old book.new
         (λ b c. OpensBook h.kept b.kept c.kept t) (t ≡ TheStatus.NullPointer)) (t ≡ TheStatus.NullPointer × book.new ≡ book.old) }
 {
     open_at(alloc, settings, book) as u32
@@ -128,7 +129,8 @@ pub extern "C" fn nutscythe_raw_configure(
     settings: &mut [Handle],
     handle: &mut [Handle],
 ) -> u32
-    ensures { (t : TheStatus) × (result ≡ number t) × OfFirst settings.old settings.new (λ h i. (i.kept ≡ h.kept) × OfFirst handle.old handle.new
+    ensures { (t : TheStatus) × (result ≡ number t)
+        × OfFirst settings.old settings.new (λ h i. (i.kept ≡ h.kept) × OfFirst handle.old handle.new
         (λ c d. ConfiguresBy h.kept c.kept d.kept t) (t ≡ TheStatus.NullPointer)) (t ≡ TheStatus.NullPointer × handle.new ≡ handle.old) }
 {
     configure_at(alloc, settings, handle) as u32
@@ -137,7 +139,8 @@ pub extern "C" fn nutscythe_raw_configure(
 /// Lets what a handle holds take configurations, by the status.
 fn configure_at(alloc: Global, settings: &mut [Handle], handle: &mut [Handle]) -> Status
     ensures { OfFirst settings.old settings.new (λ h i. (i.kept ≡ h.kept) × OfFirst handle.old handle.new
-        (λ c d. ConfiguresBy h.kept c.kept d.kept result) (result ≡ Status.NullPointer)) (result ≡ Status.NullPointer × handle.new ≡ handle.old) }
+        (λ c d. ConfiguresBy h.kept c.kept d.kept result) (result ≡ Status.NullPointer))
+        (result ≡ Status.NullPointer × handle.new ≡ handle.old) }
 {
     let [settings, ..] = settings else {
         return Status::NullPointer;

@@ -21,8 +21,10 @@ pub extern "C" fn nutscythe_raw_connection_open(
     at: u64,
     connection: &mut [Handle],
 ) -> u32
-    ensures { (t : TheStatus) × (result ≡ number t) × OfFirst settings.old settings.new (λ h i. (i.kept ≡ h.kept) × OfFirst connection.old connection.new
-        (λ c d. OpensBy at h.kept c.kept d.kept t) (t ≡ TheStatus.NullPointer)) (t ≡ TheStatus.NullPointer × connection.new ≡ connection.old) }
+    ensures { (t : TheStatus) × (result ≡ number t)
+        × OfFirst settings.old settings.new (λ h i. (i.kept ≡ h.kept) × OfFirst connection.old connection.new
+        (λ c d. OpensBy at h.kept c.kept d.kept t) (t ≡ TheStatus.NullPointer))
+        (t ≡ TheStatus.NullPointer × connection.new ≡ connection.old) }
 {
     open_at(alloc, settings, at, connection) as u32
 }
@@ -30,7 +32,8 @@ pub extern "C" fn nutscythe_raw_connection_open(
 /// Opens a connection, by its status.
 fn open_at(alloc: Global, settings: &mut [Handle], at: u64, connection: &mut [Handle]) -> Status
     ensures { OfFirst settings.old settings.new (λ h i. (i.kept ≡ h.kept) × OfFirst connection.old connection.new
-        (λ c d. OpensBy at h.kept c.kept d.kept result) (result ≡ Status.NullPointer)) (result ≡ Status.NullPointer × connection.new ≡ connection.old) }
+        (λ c d. OpensBy at h.kept c.kept d.kept result) (result ≡ Status.NullPointer))
+        (result ≡ Status.NullPointer × connection.new ≡ connection.old) }
 {
     let [settings, ..] = settings else {
         return Status::NullPointer;
@@ -122,7 +125,8 @@ pub extern "C" fn nutscythe_raw_connection_next(
     query_len: &mut [usize],
 ) -> u32
     ensures missing { result ≡ 22 → (connection.new ≡ connection.old) × (query.new ≡ query.old) × (query_len.new ≡ query_len.old) }
-    ensures taken { (t : TheStatus) × (result ≡ number t) × OfFirst connection.old connection.new (λ h i. OfFirst query_len.old query_len.new
+    ensures taken { (t : TheStatus) × (result ≡ number t)
+        × OfFirst connection.old connection.new (λ h i. OfFirst query_len.old query_len.new
         (λ n l. Gives at h.kept i.kept query.old query.new n l t)
         (t ≡ TheStatus.NullPointer)) (t ≡ TheStatus.NullPointer) }
 {
@@ -137,7 +141,8 @@ fn next_at(
     query: &mut [u8],
     query_len: &mut [usize],
 ) -> Status
-    ensures missing { result ≡ Status.NullPointer → (connection.new ≡ connection.old) × (query.new ≡ query.old) × (query_len.new ≡ query_len.old) }
+    ensures missing { result ≡ Status.NullPointer → (connection.new ≡ connection.old) × (query.new ≡ query.old)
+        × (query_len.new ≡ query_len.old) }
     ensures taken { OfFirst connection.old connection.new (λ h i. OfFirst query_len.old query_len.new
         (λ n l. Gives at h.kept i.kept query.old query.new n l result)
         (result ≡ Status.NullPointer)) (result ≡ Status.NullPointer) }
@@ -253,7 +258,8 @@ pub extern "C" fn nutscythe_raw_connection_front(
     frame_len: &mut [usize],
 ) -> u32
     ensures missing { result ≡ 22 → (connection.new ≡ connection.old) × (frame.new ≡ frame.old) × (frame_len.new ≡ frame_len.old) }
-    ensures front { (t : TheStatus) × (result ≡ number t) × OfFirst connection.old connection.new (λ h i. (i.kept ≡ h.kept) × OfFirst frame_len.old frame_len.new
+    ensures front { (t : TheStatus) × (result ≡ number t)
+        × OfFirst connection.old connection.new (λ h i. (i.kept ≡ h.kept) × OfFirst frame_len.old frame_len.new
         (λ n l. Fronts h.kept frame.old frame.new n l t)
         (t ≡ TheStatus.NullPointer)) (t ≡ TheStatus.NullPointer) }
 {
@@ -267,7 +273,8 @@ fn front_at(
     frame: &mut [u8],
     frame_len: &mut [usize],
 ) -> Status
-    ensures missing { result ≡ Status.NullPointer → (connection.new ≡ connection.old) × (frame.new ≡ frame.old) × (frame_len.new ≡ frame_len.old) }
+    ensures missing { result ≡ Status.NullPointer → (connection.new ≡ connection.old) × (frame.new ≡ frame.old)
+        × (frame_len.new ≡ frame_len.old) }
     ensures front { OfFirst connection.old connection.new (λ h i. (i.kept ≡ h.kept) × OfFirst frame_len.old frame_len.new
         (λ n l. Fronts h.kept frame.old frame.new n l result)
         (result ≡ Status.NullPointer)) (result ≡ Status.NullPointer) }

@@ -33,7 +33,8 @@ pub extern "C" fn nutscythe_raw_datagram(
 ) -> u32
     ensures missing { result ≡ 22 → (reply.new ≡ reply.old) × (reply_len.new ≡ reply_len.old) × (rule.new ≡ rule.old) }
     ensures decided { (t : TheStatus) × (result ≡ number t)
-        × OfFirst settings.old settings.new (λ h i. (i.kept ≡ h.kept) × OfOne origin.now (λ o. ExchangesAt h.kept o (addr_of o) (verdict_of verdict) datagram.now
+        × OfFirst settings.old settings.new (λ h i. (i.kept ≡ h.kept)
+        × OfOne origin.now (λ o. ExchangesAt h.kept o (addr_of o) (verdict_of verdict) datagram.now
         reply.old reply.new reply_len.old reply_len.new rule.old rule.new t) (t ≡ TheStatus.NullPointer)) (t ≡ TheStatus.NullPointer) }
 {
     exchange_at(
@@ -53,8 +54,10 @@ fn exchange_at(
     rule: &mut [Rule],
 ) -> Status
     ensures missing { result ≡ Status.NullPointer → (reply.new ≡ reply.old) × (reply_len.new ≡ reply_len.old) × (rule.new ≡ rule.old) }
-    ensures decided { OfFirst settings.old settings.new (λ h i. (i.kept ≡ h.kept) × OfOne origin.now (λ o. ExchangesAt h.kept o (addr_of o) (verdict_of verdict) datagram.now
-        reply.old reply.new reply_len.old reply_len.new rule.old rule.new result) (result ≡ Status.NullPointer)) (result ≡ Status.NullPointer) }
+    ensures decided { OfFirst settings.old settings.new (λ h i. (i.kept ≡ h.kept)
+        × OfOne origin.now (λ o. ExchangesAt h.kept o (addr_of o) (verdict_of verdict) datagram.now
+        reply.old reply.new reply_len.old reply_len.new rule.old rule.new result) (result ≡ Status.NullPointer))
+        (result ≡ Status.NullPointer) }
 {
     let [settings, ..] = settings else {
         return Status::NullPointer;

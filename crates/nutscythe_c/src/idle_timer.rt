@@ -20,7 +20,8 @@ pub extern "C" fn nutscythe_raw_connection_deadline(
     now: u64,
     deadline: &mut [u64],
 ) -> u32
-    ensures { (t : TheStatus) × (result ≡ number t) × OfFirst connection.old connection.new (λ h i. (i.kept ≡ h.kept) × OfFirst deadline.old deadline.new
+    ensures { (t : TheStatus) × (result ≡ number t)
+        × OfFirst connection.old connection.new (λ h i. (i.kept ≡ h.kept) × OfFirst deadline.old deadline.new
         (λ d e. Expires now h.kept d e t) (t ≡ TheStatus.NullPointer)) (t ≡ TheStatus.NullPointer × deadline.new ≡ deadline.old) }
 {
     deadline_at(alloc, connection, now, deadline) as u32

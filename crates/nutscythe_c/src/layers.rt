@@ -35,7 +35,8 @@ pub extern "C" fn nutscythe_raw_decide(
 ) -> u32
     ensures missing { result ≡ 22 → (reply.new ≡ reply.old) × (reply_len.new ≡ reply_len.old) × (rule.new ≡ rule.old) }
     ensures decided { (t : TheStatus) × (result ≡ number t)
-        × OfFirst settings.old settings.new (λ h i. (i.kept ≡ h.kept) × OfOne origin.now (λ o. DecidesAt h.kept (arrival_of o) (verdict_of verdict) message.now
+        × OfFirst settings.old settings.new (λ h i. (i.kept ≡ h.kept)
+        × OfOne origin.now (λ o. DecidesAt h.kept (arrival_of o) (verdict_of verdict) message.now
         reply.old reply.new reply_len.old reply_len.new rule.old rule.new t) (t ≡ TheStatus.NullPointer)) (t ≡ TheStatus.NullPointer) }
 {
     decide_at(
@@ -55,8 +56,10 @@ fn decide_at(
     rule: &mut [Rule],
 ) -> Status
     ensures missing { result ≡ Status.NullPointer → (reply.new ≡ reply.old) × (reply_len.new ≡ reply_len.old) × (rule.new ≡ rule.old) }
-    ensures decided { OfFirst settings.old settings.new (λ h i. (i.kept ≡ h.kept) × OfOne origin.now (λ o. DecidesAt h.kept (arrival_of o) (verdict_of verdict) message.now
-        reply.old reply.new reply_len.old reply_len.new rule.old rule.new result) (result ≡ Status.NullPointer)) (result ≡ Status.NullPointer) }
+    ensures decided { OfFirst settings.old settings.new (λ h i. (i.kept ≡ h.kept)
+        × OfOne origin.now (λ o. DecidesAt h.kept (arrival_of o) (verdict_of verdict) message.now
+        reply.old reply.new reply_len.old reply_len.new rule.old rule.new result) (result ≡ Status.NullPointer))
+        (result ≡ Status.NullPointer) }
 {
     let [settings, ..] = settings else {
         return Status::NullPointer;

@@ -1,7 +1,7 @@
 //! The parts of a server for callers from C: settings, what is to be done about a message, how a reply is rewritten, and
 //! connections. The header `embed/nutscythe.h` says it in C; each call of the header is an inline function over one call here.
 //!
-//! - `nutscythe_raw_settings_new`, `_read`, `_cookies`, `_deny` and `_copy` make settings.
+//! - `nutscythe_raw_settings_new`, `_read`, `_servers`, `_cookies`, `_deny` and `_copy` make settings.
 //! - `nutscythe_raw_decide` and `nutscythe_raw_datagram` say what is to be done about a message, before any service is asked.
 //! - `nutscythe_raw_rewrite` and `nutscythe_raw_refuse` give the reply that is sent for a request that a service was asked.
 //! - `nutscythe_raw_reply_begin`, `_add`, `_option` and `_write` build a reply, which is rewritten without being read again.
@@ -42,6 +42,7 @@ mod origin;
 mod readings;
 mod replies;
 mod rule;
+mod servers;
 mod settings;
 mod status;
 mod transactions;
@@ -50,5 +51,6 @@ pub use handle::Handle;
 pub use kept::Kept;
 pub use origin::Origin;
 pub use rule::Rule;
+pub use servers::Servers;
 pub use settings::LineRefusal;
 pub use status::Status;

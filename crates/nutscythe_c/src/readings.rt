@@ -51,8 +51,10 @@ pub extern "C" fn nutscythe_raw_message_next(
     item_len: &mut [usize],
     section: &mut [u32],
 ) -> u32
-    ensures missing { result ≡ 22 → (reader.new ≡ reader.old) × (item.new ≡ item.old) × (item_len.new ≡ item_len.old) × (section.new ≡ section.old) }
-    ensures taken { (t : TheStatus) × (result ≡ number t) × OfFirst reader.old reader.new (λ h i. OfFirst item_len.old item_len.new (λ n l. OfFirst section.old section.new
+    ensures missing { result ≡ 22 → (reader.new ≡ reader.old) × (item.new ≡ item.old) × (item_len.new ≡ item_len.old)
+        × (section.new ≡ section.old) }
+    ensures taken { (t : TheStatus) × (result ≡ number t)
+        × OfFirst reader.old reader.new (λ h i. OfFirst item_len.old item_len.new (λ n l. OfFirst section.old section.new
         (λ a b. TakesBy h.kept i.kept item.old item.new n l a b t)
         (t ≡ TheStatus.NullPointer)) (t ≡ TheStatus.NullPointer)) (t ≡ TheStatus.NullPointer) }
 {
@@ -67,7 +69,8 @@ fn next_at(
     item_len: &mut [usize],
     section: &mut [u32],
 ) -> Status
-    ensures missing { result ≡ Status.NullPointer → (reader.new ≡ reader.old) × (item.new ≡ item.old) × (item_len.new ≡ item_len.old) × (section.new ≡ section.old) }
+    ensures missing { result ≡ Status.NullPointer → (reader.new ≡ reader.old) × (item.new ≡ item.old) × (item_len.new ≡ item_len.old)
+        × (section.new ≡ section.old) }
     ensures taken { OfFirst reader.old reader.new (λ h i. OfFirst item_len.old item_len.new (λ n l. OfFirst section.old section.new
         (λ a b. TakesBy h.kept i.kept item.old item.new n l a b result)
         (result ≡ Status.NullPointer)) (result ≡ Status.NullPointer)) (result ≡ Status.NullPointer) }

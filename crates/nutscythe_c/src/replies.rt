@@ -50,7 +50,8 @@ pub extern "C" fn nutscythe_raw_reply_begin(
     reply: &mut [Handle],
 ) -> u32
     ensures { (t : TheStatus) × (result ≡ number t)
-        × OfFirst reply.old reply.new (λ h i. BeginsBy query.now (rcode_of rcode) is_authoritative h.kept i.kept t) (t ≡ TheStatus.NullPointer) }
+        × OfFirst reply.old reply.new (λ h i. BeginsBy query.now (rcode_of rcode) is_authoritative h.kept i.kept t)
+        (t ≡ TheStatus.NullPointer) }
 {
     begin_at(alloc, query, rcode_of(rcode), is_authoritative, reply) as u32
 }
@@ -63,7 +64,8 @@ fn begin_at(
     is_authoritative: bool,
     reply: &mut [Handle],
 ) -> Status
-    ensures { OfFirst reply.old reply.new (λ h i. BeginsBy query.now rcode is_authoritative h.kept i.kept result) (result ≡ Status.NullPointer) }
+    ensures { OfFirst reply.old reply.new (λ h i. BeginsBy query.now rcode is_authoritative h.kept i.kept result)
+        (result ≡ Status.NullPointer) }
 {
     let [reply, ..] = reply else {
         return Status::NullPointer;
@@ -95,7 +97,8 @@ pub extern "C" fn nutscythe_raw_reply_add(
     rdata: &[u8],
 ) -> u32
     ensures { (t : TheStatus) × (result ≡ number t)
-        × OfFirst reply.old reply.new (λ h i. AddsBy (section_of section) (plain_in owner.now rtype class ttl rdata.now) h.kept i.kept t) (t ≡ TheStatus.NullPointer) }
+        × OfFirst reply.old reply.new (λ h i. AddsBy (section_of section) (plain_in owner.now rtype class ttl rdata.now) h.kept i.kept t)
+        (t ≡ TheStatus.NullPointer) }
 {
     add_at(alloc, reply, section, owner, rtype, class, ttl, rdata) as u32
 }
@@ -136,7 +139,9 @@ fn add_at(
     ttl: u32,
     rdata: &[u8],
 ) -> Status
-    ensures { OfFirst reply.old reply.new (λ h i. AddsBy (section_of section) (plain_in owner.now rtype class ttl rdata.now) h.kept i.kept result) (result ≡ Status.NullPointer) }
+    ensures { OfFirst reply.old reply.new
+        (λ h i. AddsBy (section_of section) (plain_in owner.now rtype class ttl rdata.now) h.kept i.kept result)
+        (result ≡ Status.NullPointer) }
 {
     let [reply, ..] = reply else {
         return Status::NullPointer;
@@ -223,7 +228,8 @@ pub extern "C" fn nutscythe_raw_reply_write(
     octets_len: &mut [usize],
 ) -> u32
     ensures missing { result ≡ 22 → (reply.new ≡ reply.old) × (octets.new ≡ octets.old) × (octets_len.new ≡ octets_len.old) }
-    ensures written { (t : TheStatus) × (result ≡ number t) × OfOne rule.now (λ r. OfFirst reply.old reply.new (λ h i. OfFirst octets_len.old octets_len.new
+    ensures written { (t : TheStatus) × (result ≡ number t)
+        × OfOne rule.now (λ r. OfFirst reply.old reply.new (λ h i. OfFirst octets_len.old octets_len.new
         (λ n l. WritesBy (rule_in r) h.kept i.kept octets.old octets.new n l t)
         (t ≡ TheStatus.NullPointer)) (t ≡ TheStatus.NullPointer)) (t ≡ TheStatus.NullPointer) }
 {
@@ -238,7 +244,8 @@ fn write_at(
     octets: &mut [u8],
     octets_len: &mut [usize],
 ) -> Status
-    ensures missing { result ≡ Status.NullPointer → (reply.new ≡ reply.old) × (octets.new ≡ octets.old) × (octets_len.new ≡ octets_len.old) }
+    ensures missing { result ≡ Status.NullPointer → (reply.new ≡ reply.old) × (octets.new ≡ octets.old)
+        × (octets_len.new ≡ octets_len.old) }
     ensures written { OfOne rule.now (λ r. OfFirst reply.old reply.new (λ h i. OfFirst octets_len.old octets_len.new
         (λ n l. WritesBy (rule_in r) h.kept i.kept octets.old octets.new n l result)
         (result ≡ Status.NullPointer)) (result ≡ Status.NullPointer)) (result ≡ Status.NullPointer) }
@@ -288,7 +295,7 @@ fn write(
     ensures given { result ≢ Status.NullPointer }
     ensures written { WritesReply rule.now held.old held.new octets.old octets.new octets_len.old octets_len.new result }
 {
-    let _told = held.rewrite(alloc, rule);
+    let _rewritten = held.rewrite(alloc, rule);
     match held.rewritten() {
         Some(built) => put_reply(built, octets, octets_len),
         None => Status::NoMemory,

@@ -69,7 +69,8 @@ fn units_of(keepalive: Option<IdleTimeout>) -> u16
 impl Rule {
     /// The numbers of a rule.
     pub(crate) fn of(rule: &ReplyRule) -> Rule
-        ensures { rule_in result ≡ rule.now }
+        ensures rule { rule_in result ≡ rule.now }
+        ensures spare { result.spare ≡ 0 }
     {
         let limit = rule.mandatory.limit;
         let keepalive = rule.edns.keepalive;

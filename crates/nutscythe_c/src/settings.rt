@@ -69,7 +69,8 @@ pub extern "C" fn nutscythe_raw_settings_read(
     bad_line: &mut [LineRefusal],
 ) -> u32
     ensures { (t : TheStatus) × (result ≡ number t) × OfFirst settings.old settings.new (λ h i. OfFirst bad_line.old bad_line.new
-        (λ b c. ReadsText text.now h.kept i.kept b c t) (t ≡ TheStatus.NullPointer × i.kept ≡ h.kept)) (t ≡ TheStatus.NullPointer × bad_line.new ≡ bad_line.old) }
+        (λ b c. ReadsText text.now h.kept i.kept b c t) (t ≡ TheStatus.NullPointer × i.kept ≡ h.kept))
+        (t ≡ TheStatus.NullPointer × bad_line.new ≡ bad_line.old) }
 {
     read(alloc, text, settings, bad_line) as u32
 }
@@ -77,7 +78,8 @@ pub extern "C" fn nutscythe_raw_settings_read(
 /// Reads settings, by its status.
 fn read(alloc: Global, text: &[u8], settings: &mut [Handle], bad_line: &mut [LineRefusal]) -> Status
     ensures { OfFirst settings.old settings.new (λ h i. OfFirst bad_line.old bad_line.new
-        (λ b c. ReadsText text.now h.kept i.kept b c result) (result ≡ Status.NullPointer × i.kept ≡ h.kept)) (result ≡ Status.NullPointer × bad_line.new ≡ bad_line.old) }
+        (λ b c. ReadsText text.now h.kept i.kept b c result) (result ≡ Status.NullPointer × i.kept ≡ h.kept))
+        (result ≡ Status.NullPointer × bad_line.new ≡ bad_line.old) }
 {
     let [settings, ..] = settings else {
         return Status::NullPointer;
@@ -225,7 +227,8 @@ pub extern "C" fn nutscythe_raw_settings_copy(
     settings: &mut [Handle],
     copy: &mut [Handle],
 ) -> u32
-    ensures { (t : TheStatus) × (result ≡ number t) × OfFirst settings.old settings.new (λ h i. (i.kept ≡ h.kept) × OfFirst copy.old copy.new
+    ensures { (t : TheStatus) × (result ≡ number t)
+        × OfFirst settings.old settings.new (λ h i. (i.kept ≡ h.kept) × OfFirst copy.old copy.new
         (λ c d. Copies h.kept c.kept d.kept t) (t ≡ TheStatus.NullPointer)) (t ≡ TheStatus.NullPointer × copy.new ≡ copy.old) }
 {
     copy_at(alloc, settings, copy) as u32
