@@ -15,10 +15,12 @@ pub record Fronting : Type 0 where
   pub hint : Req (Unit {0}) → Option ℕ
   pub asks : Req (Unit {0}) → Option (List ℕ)
 
-abbrev pub fronting : (Item → Req (Unit {0}) → ℕ → Answer) → (Req (Unit {0}) → Option ℕ) → (Req (Unit {0}) → Option (List ℕ)) → Fronting
+abbrev pub fronting : (Item → Req (Unit {0}) → ℕ → Answer) → (Req (Unit {0}) → Option ℕ) → (Req (Unit {0}) → Option (List ℕ))
+    → Fronting
 fronting over hint asks = record { over = over; hint = hint; asks = asks }
 
 -- how a request is taken, whatever is given for it: an item of its own is its one answer, or else the given item is, rewritten
 abbrev pub IsTaken : {R : Type 0} → (R → Msg → Msg) → (Item → ℕ → Answer) → Option (List ℕ) → Taken R → Type 0
 IsTaken rewriting over asks (Own own) = (asks ≡ None) × ((i : Item) (k : ℕ) → over i k ≡ once own k)
-IsTaken rewriting over asks (Passed rule message) = (asks ≡ Some message) × ((i : Item) (k : ℕ) → over i k ≡ once (rewritten (rewriting rule) i) k)
+IsTaken rewriting over asks (Passed rule message) = (asks ≡ Some message)
+    × ((i : Item) (k : ℕ) → over i k ≡ once (rewritten (rewriting rule) i) k)

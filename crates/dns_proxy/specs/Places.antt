@@ -1,5 +1,6 @@
 -- The places of a proxy: at each a query, or none.
-use Rattle.std.specs.Prelude.{◌≡◌, ◌≢◌, ◌≤◌, ℕ, List, [], Bool, true, false, Option, Some, None, length, slice_get, option_and_then, Result, Err}
+use Rattle.std.specs.Prelude.{◌≡◌, ◌≢◌, ◌≤◌, ℕ, List, [], Bool, true, false, Option, Some, None, Result, Err}
+use Rattle.std.specs.Prelude.{length, slice_get, option_and_then}
 use Rattle.dns_base.specs.Msg.{Msg}
 use Rattle.dns_events.specs.Config.{Dgram}
 use Rattle.dns_service.specs.Answer.{Item}
@@ -79,20 +80,25 @@ module _ {R : Type 0} (rewriting : R → Msg → Msg) where
           × (new ≡ front)
 
       -- no upstream is asked, and the client is sent what it is whatever would be given
-      abbrev pub IsAnswered : Fronting → Dgram → ClientMessage → F → List (Option (Query R)) → Started → F → List (Option (Query R)) → Type 0
+      abbrev pub IsAnswered : Fronting → Dgram → ClientMessage → F → List (Option (Query R)) → Started
+          → F → List (Option (Query R)) → Type 0
       IsAnswered f dgram c front before (Sent o) new after = IsSame before after × ((i : Item) → outputs_to c o ≡ sent_over f dgram c i)
           × (new ≡ front)
-      IsAnswered f dgram c front before Short new after = IsSame before after × ((i : Item) → closed_by c.transport c.client ≡ sent_over f dgram c i)
+      IsAnswered f dgram c front before Short new after = IsSame before after
+          × ((i : Item) → closed_by c.transport c.client ≡ sent_over f dgram c i)
           × (new ≡ front)
       IsAnswered f dgram c front before Full new after = ⊥
       IsAnswered f dgram c front before (Asks place o) new after = ⊥
 
       -- how a message starts, by the message that is asked for it, if one is
-      abbrev pub StartsBy : Option (List ℕ) → ℕ → WhenFull → Fronting → Dgram → ClientMessage → UpstreamConfig → ℕ → F → List (Option (Query R)) → Started → F → List (Option (Query R)) → Type 0
+      abbrev pub StartsBy : Option (List ℕ) → ℕ → WhenFull → Fronting → Dgram → ClientMessage → UpstreamConfig → ℕ
+          → F → List (Option (Query R)) → Started → F → List (Option (Query R)) → Type 0
       StartsBy None bound when f dgram c u id front before s new after = IsAnswered f dgram c front before s new after
       StartsBy (Some m) bound when f dgram c u id front before s new after =
-          Enters bound when (record { front = f; dgram = dgram; came = c; upstream = u; message = m; id = id; events = [] }) (with_id id m) front before s new after
+          let a : Asked = record { front = f; dgram = dgram; came = c; upstream = u; message = m; id = id; events = [] } in
+          Enters bound when a (with_id id m) front before s new after
 
-      abbrev pub Starts : (F → Req (Unit {0}) → F) → ℕ → WhenFull → Fronting → Dgram → ClientMessage → UpstreamConfig → ℕ → F → List (Option (Query R)) → Started → F → List (Option (Query R)) → Type 0
+      abbrev pub Starts : (F → Req (Unit {0}) → F) → ℕ → WhenFull → Fronting → Dgram → ClientMessage → UpstreamConfig → ℕ
+          → F → List (Option (Query R)) → Started → F → List (Option (Query R)) → Type 0
       Starts after_take bound when f dgram c u id front before s new after =
           StartsBy (asked_for f dgram c) bound when f dgram c u id (front_taken after_take dgram c front) before s new after

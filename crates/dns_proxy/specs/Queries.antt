@@ -35,8 +35,10 @@ replied n o i = option_map wire (reply_to n o (Ready (Some i)))
 abbrev pub IsAsked : {R : Type 0} → ℕ → Req (Unit {0}) → Option ℕ → R → List ℕ → UpstreamConfig → ℕ → BegunQuery R → Type 0
 IsAsked client request limit rule message u id (Sent o) = ⊥
 IsAsked client request limit rule message u id Short = ⊥
-IsAsked client request limit rule message u id (Asks q octets) = (q.client ≡ client) × (q.request ≡ request) × (q.limit ≡ limit) × (q.rule ≡ rule)
-    × IsAt (record { upstream = u; message = message; id = id; at = request.received_at }) (InDatagrams []) q.lookup × (octets ≡ with_id id message)
+IsAsked client request limit rule message u id (Asks q octets) =
+    (q.client ≡ client) × (q.request ≡ request) × (q.limit ≡ limit) × (q.rule ≡ rule)
+    × IsAt (record { upstream = u; message = message; id = id; at = request.received_at }) (InDatagrams []) q.lookup
+    × (octets ≡ with_id id message)
 
 -- what stood before the upstreams is, behind an event of what is asked, what it is once the answer was given, where there is one
 abbrev pub front_by : {F : Type 0} → (F → List ℕ → ℕ → Result (List ℕ) SendError → F) → ClientMessage → F → LookupOutcome → F
@@ -57,7 +59,8 @@ module _ {R : Type 0} (rewriting : R → Msg → Msg) where
     pub secs : q.request.received_secs ≡ a.came.secs
     pub lookup : IsAt (subject a) (came_to a) q.lookup
     pub waits : answer_of a ≡ Pending
-    pub replies : (i : Item) → outputs_to a.came (replied q.limit (message_of a.came) (rewritten (rewriting q.rule) i)) ≡ sent_over a.front a.dgram a.came i
+    pub replies : (i : Item) → outputs_to a.came (replied q.limit (message_of a.came) (rewritten (rewriting q.rule) i))
+        ≡ sent_over a.front a.dgram a.came i
 
   -- a message is answered at once, whatever would be given; or it is shorter than a header; or an upstream is asked for it
   abbrev pub Begins : Fronting → Dgram → ClientMessage → UpstreamConfig → ℕ → BegunQuery R → Type 0
@@ -75,8 +78,10 @@ GoesBy given a kept gone (Led_to.Connect o) t = (t ≡ Connect o) × kept
 GoesBy given a kept gone (Led_to.Answer r) t = (o : Option (List ℕ)) × (t ≡ Reply o) × (outputs_to a.came o ≡ sent given a) × gone
 
 -- what an event behind the others does to the query that stands for what is asked
-abbrev pub Goes : {R : Type 0} → (R → Msg → Msg) → (List ℕ → Result (List ℕ) SendError → Item) → Asked → LookupEvent → QueryOutcome → Query R → Type 0
-Goes rewriting given a e t q = GoesBy given (with_event a e) (Stands rewriting q (with_event a e)) (Unit {0}) (outcome_after a e) t
+abbrev pub Goes : {R : Type 0} → (R → Msg → Msg) → (List ℕ → Result (List ℕ) SendError → Item) → Asked
+    → LookupEvent → QueryOutcome → Query R → Type 0
+Goes rewriting given a e t q =
+    GoesBy given (with_event a e) (Stands rewriting q (with_event a e)) (Unit {0}) (outcome_after a e) t
 
 -- what stood before the upstreams is, once a message was taken that makes a request
 abbrev pub front_taken : {F : Type 0} → (F → Req (Unit {0}) → F) → Dgram → ClientMessage → F → F

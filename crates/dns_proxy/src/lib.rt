@@ -24,6 +24,7 @@
 //!   exchange of that message alone sends, over a service that gives this outcome.
 //! - Over a connection a reply has no limit, and it stands behind its length.
 //! - A message that finds no place, and a query that finds no memory, leave all others as they are.
+//! - There are never more places than there may be queries (`bounded`).
 //!
 //! # What a body could still get away with
 //!

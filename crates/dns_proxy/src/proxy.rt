@@ -1,6 +1,6 @@
 //! All queries that are asked of upstreams, each at a place of its own.
 
-ghost use Rattle.std.specs.Prelude.{◌≡◌, ◌≢◌, ℕ, [], IfOk, MatchOption, None, OnErr, OnOk, Option, Some, slice_get};
+ghost use Rattle.std.specs.Prelude.{◌≡◌, ◌≢◌, ◌≤◌, ℕ, [], IfOk, MatchOption, None, OnErr, OnOk, Option, Some, length, slice_get};
 ghost use Rattle.dns_proxy.specs.Fronts.{fronting};
 ghost use Rattle.dns_proxy.specs.Places.{Enters, GoesAt, IsFull, IsSame, StandsAt, Starts, due_there, ends, front_at, kept_at};
 ghost use Rattle.dns_proxy.specs.Proxied.{Asked};
@@ -117,6 +117,7 @@ impl<F: Front> Proxy<F> {
             → self.new.front ≡ front_at F.after_give a event.now self.old.front) }
         ensures others { (k : ℕ) → k ≢ place → kept_at k self.new.places.items ≡ kept_at k self.old.places.items }
         ensures lost { OnErr result (kept_at place self.new.places.items ≡ None) }
+        ensures count { length self.new.places.items ≡ length self.old.places.items }
         ensures rest { self.new ≡ record self.old { front = self.new.front; places = self.new.places } }
     {
         if place >= self.places.len() {
@@ -148,6 +149,7 @@ impl<F: Front> Proxy<F> {
         ensures free { IfOk result (λ p. MatchOption p (IsFull self.old.bound self.old.places.items)
             (λ k. slice_get self.new.places.items k ≡ Some None)) }
         ensures kept { (k : ℕ) → kept_at k self.new.places.items ≡ kept_at k self.old.places.items }
+        ensures bounded { length self.old.places.items ≤ self.old.bound → length self.new.places.items ≤ self.old.bound }
         ensures rest { self.new ≡ record self.old { places = self.new.places } }
     {
         if let Some(place) = self.places.iter().position(|place| place.is_none()) {
@@ -165,6 +167,7 @@ impl<F: Front> Proxy<F> {
         requires { slice_get self.old.places.items place ≡ Some None }
         ensures here { kept_at place self.new.places.items ≡ Some query }
         ensures others { (k : ℕ) → k ≢ place → kept_at k self.new.places.items ≡ kept_at k self.old.places.items }
+        ensures count { length self.new.places.items ≡ length self.old.places.items }
         ensures rest { self.new ≡ record self.old { places = self.new.places } }
     {
         self.places[place] = Some(query);
@@ -182,6 +185,7 @@ impl<F: Front> Proxy<F> {
             → Enters F.Rule.rewriting F.given F.after_give self.old.bound when_full a octets
             self.old.front self.old.places.items s self.new.front self.new.places.items) }
         ensures err { OnErr result (IsSame self.old.places.items self.new.places.items) }
+        ensures bounded { length self.old.places.items ≤ self.old.bound → length self.new.places.items ≤ self.old.bound }
         ensures rest { self.new ≡ record self.old { front = self.new.front; places = self.new.places } }
     {
         match self.free_place() {
@@ -203,7 +207,7 @@ impl<F: Front> Proxy<F> {
 
     /// Starts with a client's message, for which an upstream is asked under an identifier, which is to be picked at random,
     /// where it makes a request that is passed on. Where there is no room for one query more, its client is answered as where
-    /// no upstream can be reached, or it is to wait, as is said.
+    /// no upstream can be reached, or it is to wait, as is said. There are never more places than there may be queries.
     pub fn begin(
         &mut self,
         alloc: Global,
@@ -217,6 +221,7 @@ impl<F: Front> Proxy<F> {
             self.old.config came.now upstream id
             self.old.front self.old.places.items s self.new.front self.new.places.items) }
         ensures err { OnErr result (IsSame self.old.places.items self.new.places.items) }
+        ensures bounded { length self.old.places.items ≤ self.old.bound → length self.new.places.items ≤ self.old.bound }
         ensures rest { self.new ≡ record self.old { front = self.new.front; places = self.new.places } }
     {
         match begin_query(alloc, &mut self.front, &self.config, came, upstream, id) {

@@ -17,7 +17,13 @@ use Rattle.dns_proxy_config.specs.declared.config.UpstreamEntry.{UpstreamEntry}
 
 -- the limits and times that a name server has too: the requests of a connection that wait are its responses that may be queued
 abbrev pub client_limits : Limits → ServerLimits
-client_limits l = record { response_size = l.response_size; connections = l.connections; turn_away = None; queued_responses = l.requests; responses = None }
+client_limits l = record {
+  response_size = l.response_size;
+  connections = l.connections;
+  turn_away = None;
+  queued_responses = l.requests;
+  responses = None;
+}
 
 abbrev pub client_timeouts : Limits → Timeouts
 client_timeouts l = record { idle = l.idle; write = None; window = None; datagram_write = None }

@@ -96,7 +96,8 @@ fn add_upstream(
     upstreams: &mut Upstreams,
     entry: &UpstreamEntry,
 ) -> Result<(), UpstreamError>
-    ensures added { OnOk result (upstreams.new ≡ record upstreams.old { routes = upstreams.old.routes ++ route_of limits.now entry.now ∷ [] }) }
+    ensures added { let routes = upstreams.old.routes ++ route_of limits.now entry.now ∷ [] in
+        OnOk result (upstreams.new ≡ record upstreams.old { routes = routes }) }
     ensures refused { IfErr result (λ e. IsNoServer entry.now.servers.items e) }
 {
     let servers = servers_of(alloc, limits, entry.servers.as_slice())?;

@@ -2,6 +2,7 @@
 use Rattle.std.proofs.Common.{◌≡◌, ◌≤◌, ◌<◌, ◌∙◌, List, ℕ, Option, Some, length, ap, refl, subst, true, false}
 use Rattle.std.proofs.lemmas.Result.{IfOk-weaker, on_ok_weaker}
 use Rattle.dns_base.specs.Header.{header_of}
+use Rattle.dns_service.specs.Answer.{Item}
 use Rattle.dns_proxy.specs.Coming.{message_of, outputs_to, refused_by}
 use Rattle.dns_proxy.specs.Fronts.{fronting}
 use Rattle.dns_proxy.proofs.Beginnings.{as_request, as_response, as_short, front_after, front_left, request_read, response, short}
