@@ -24,7 +24,7 @@
 //!   says of a name (`each_absence_is_proved`): no such name, no data, an empty non-terminal, an expanded wildcard, no
 //!   data at a wildcard, a referral without DS, DS asked of the parent. They prove it among others too, so that the
 //!   NSECs of a chain of aliases are those of its names. The question isn't for RRSIG, NSEC or the DS of the apex.
-//! - The same by NSEC3, with Opt-Out or without (`each_absence_is_proved3`), where the hashes of the names that are
+//! - So do three NSEC3s, with Opt-Out or without (`each_absence_is_proved3`), where the hashes of the names that are
 //!   looked for are apart and the chain has a proof at all (`IsProvable`: a span with Opt-Out may leave out empty
 //!   non-terminals).
 //! - `check` gives Ok exactly for a chain that is whole. Its error is the first record or NSEC that breaks it, and a

@@ -76,8 +76,8 @@ fn next_chain(row: &mut Row<'_>) -> Vec<Nsec> {
 
 /// Appends the NSEC of an owner, a next name and types.
 fn push_nsec(row: &mut Row<'_>, nsecs: &mut Vec<Nsec>, word: &str) {
-    let (owner, rest) = word.split_once('/').unwrap_or((word, ""));
-    let (next, types) = rest.split_once('/').unwrap_or((rest, ""));
+    let (owner, rest) = word.split_once(':').unwrap_or((word, ""));
+    let (next, types) = rest.split_once(':').unwrap_or((rest, ""));
     let owner = row.name_of(owner).to_owned(row.alloc());
     let next = row.name_of(next).to_owned(row.alloc());
     let types = types_of(row, types);
