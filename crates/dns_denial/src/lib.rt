@@ -4,7 +4,8 @@
 //! - `Chain` holds the `Nsec`s of a zone in canonical order. `check` decides whether it is whole for a `ZoneTree`, and
 //!   says where it isn't (`ChainError`). `denial` and `wildcard_denial` choose those of a reply.
 //! - `HashedChain` holds the `Nsec3`s of a zone in the order of their hashes. `denial` chooses those of a reply.
-//! - `Hashing` is the hash of names that NSEC3PARAM tells.
+//! - `Hashing` is the hash of names that NSEC3PARAM tells. More than 100 iterations, or a salt of more than 32 octets, are
+//!   refused (`HashingError`; RFC 9276, section 3.2).
 //!
 //! Nothing here makes or verifies a signature, or holds a key: zones are signed elsewhere.
 //!
@@ -54,7 +55,7 @@ mod wildcard;
 
 pub use chain::{Chain, Denial};
 pub use chain_error::ChainError;
-pub use hash::Hashing;
+pub use hash::{Hashing, HashingError};
 pub use hashed_denial::HashedDenial;
 pub use laws::{
     ds_is_proved_absent, each_absence_is_proved, each_absence_is_proved3, expansions_are_proved,

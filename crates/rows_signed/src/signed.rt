@@ -29,7 +29,15 @@ fn hashed(row: &mut Row<'_>) {
     let salt = row.vector();
     let iterations = row.number();
     let name = row.name();
-    match Hashing::new(salt, iterations).hash(row.alloc(), &name) {
+    match Hashing::new(salt, iterations) {
+        Ok(hashing) => hash_said(row, &hashing, &name),
+        Err(error) => row.debug(&error),
+    }
+}
+
+/// The hash of a name.
+fn hash_said(row: &mut Row<'_>, hashing: &Hashing, name: &NameRef<'_>) {
+    match hashing.hash(row.alloc(), name) {
         Ok(hash) => row.hexadecimal(&hash),
         Err(_) => row.fail(RowError::OutOfMemory),
     }
