@@ -8,8 +8,8 @@ use Rattle.dns_signed_zone.specs.SignedZones.{IsOne, head_of, servers_at}
 use Rattle.dns_signed_zone.proofs.ProofLaws.{head_none, head_owner}
 use Rattle.dns_signed_zone.proofs.signed_zone.at_cut.Goals as goal
 
-pub returns-in-Some : goal.returns-in-Some
-returns-in-Some c =
+pub returns : goal.returns
+returns c =
     let z = c.args.zone.now in
     let m = c.args.kinds.now in
     let r = c.in-Some.server.now in
