@@ -19,7 +19,8 @@ use Rattle.dns_denial.specs.Denials.{CanBeDenied, HasNone, IsAnswered, IsUnsigne
 use Rattle.dns_denial.specs.Nsec3.{AreApart, Hashing, IsApart, IsNear, IsWhole3, Nsec3State, at_encloser, closer, covers3, has, is_delegation3, is_matched, lacks3, matches3, next_closer, opts_out, proves_expansion3, proves_insecure3, proves_name_error3, proves_no_data3, proves_wildcard_no_data3, provable}
 use Rattle.dns_denial.proofs.AcceptedLaws.{had_some, is_ds, none_of, there, unsigned_at, unsigned_cut}
 use Rattle.dns_denial.proofs.ChainLaws.{answered_above}
-use Rattle.dns_denial.proofs.HashLaws.{Picked, any_matched, at_missing, closer_here, closer_up, cut_exists, delegation_listed, inside, lacking, opted_out, other, own, provable_above, provable_cons, provable_here, shape, unmatched, up_step}
+use Rattle.dns_denial.proofs.HashLaws.{Picked, at_missing, cut_exists, delegation_listed, inside, lacking, opted_out, other, own, unmatched}
+use Rattle.dns_denial.proofs.ProvableLaws.{any_matched, closer_here, closer_up, provable_above, provable_cons, provable_here, shape, up_step}
 use Rattle.dns_denial.proofs.ListLaws.{found, present, some_any}
 use Rattle.dns_denial.proofs.NameLaws.{ends_itself, ends_short, ends_trans, same_back, same_ends, same_itself, same_trans}
 use Rattle.dns_denial.proofs.RegionLaws.{AtCut, Reached, asked_cut, reached}

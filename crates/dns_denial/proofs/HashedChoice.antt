@@ -12,7 +12,8 @@ use Rattle.dns_zone.specs.Owned.{ZoneState}
 use Rattle.dns_zone_tree.specs.Wildcards.{star}
 use Rattle.dns_denial.specs.Accepted3.{AreChosen, AreClosest, HasNoZone3, hashed_names}
 use Rattle.dns_denial.specs.Nsec3.{Hashing, IsNear, IsNearest, IsWhole3, Nsec3State, closer, hash_of, is_matched, matches3, provable}
-use Rattle.dns_denial.proofs.HashLaws.{any_matched, closer_here, closer_up, inside, provable_cons, provable_here}
+use Rattle.dns_denial.proofs.HashLaws.{inside}
+use Rattle.dns_denial.proofs.ProvableLaws.{any_matched, closer_here, closer_up, provable_cons, provable_here}
 use Rattle.dns_denial.proofs.HashOrder.{nearest_matches}
 use Rattle.dns_denial.proofs.ListLaws.{present}
 

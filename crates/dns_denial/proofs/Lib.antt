@@ -16,6 +16,7 @@ pub mod DenialLaws
 pub mod AcceptedLaws
 pub mod HashOrder
 pub mod HashSearch
+pub mod ProvableLaws
 pub mod HashLaws
 pub mod Accepted3Laws
 pub mod HashedChoice

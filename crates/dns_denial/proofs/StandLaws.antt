@@ -1,6 +1,6 @@
 -- What a walk to a name says of the name's records.
-use Rattle.std.proofs.Common.{◌≡◌, ℕ, suc, Bool, true, false, List, [], ◌∷◌, length, nat_eq, None, refl, ap, sym, ◌∙◌, arith, inl, inr}
-use Rattle.std.specs.Prelude.{◌==◌, ◌≢◌, ◌&&◌, ◌||◌, ◌⊎◌, not, if◌then◌else◌}
+use Rattle.std.proofs.Common.{◌≡◌, ℕ, suc, ◌<◌, Bool, true, false, List, [], ◌∷◌, length, nat_eq, None, refl, ap, sym, ◌∙◌, arith, inl, inr}
+use Rattle.std.specs.Prelude.{◌==◌, ◌≢◌, ◌&&◌, ◌||◌, ◌⊎◌, not, if◌then◌else◌, MatchBool}
 use Rattle.std.specs.Cmp.{both_ways}
 use Rattle.std.specs.List.{Contains, list_any}
 use Rattle.std.proofs.lemmas.Bool.{true≢false, and_from, and_parts, cases_Bool, false_from_ne_true, not-true, not_from_false}
@@ -10,10 +10,12 @@ use Rattle.dns_message.specs.declared.record.Record.{Record}
 use Rattle.dns_route.specs.Routes.{ends_name}
 use Rattle.dns_zone.specs.Cuts.{delegates, is_cut_off}
 use Rattle.dns_zone.specs.Owned.{ZoneState, is_asked, is_of, is_owned}
-use Rattle.dns_zone.specs.Places.{Kinds, kind_places, places, places_from}
+use Rattle.dns_zone.specs.Places.{places_from}
+use Rattle.dns_zone_tree.specs.Kinds.{kind_places}
 use Rattle.dns_zone_tree.specs.Regions.{BelowCut, Within, asked_region}
 use Rattle.dns_zone_tree.specs.TreeErrors.{tree_error}
 use Rattle.dns_zone_tree.specs.Walks.{ReachesNode}
+use Rattle.dns_zone_tree.specs.declared.kinds.Kinds.{Kinds}
 use Rattle.dns_denial.specs.Chains.{has_type, is_below_cut, is_record_at, must_have}
 use Rattle.dns_denial.specs.Checks.{IsHeld, is_kept, is_placed}
 use Rattle.dns_denial.proofs.ChainLaws.{cut_of}
@@ -41,6 +43,16 @@ place_step false c i js h = h
 
 none_left : not (0 == 0) ≡ false
 none_left = grind (arith, nat_tests)
+
+some_by : (js : List ℕ) (b : Bool) → MatchBool b (0 < length js) (js ≡ []) → b ≡ not (length js == 0)
+some_by [] true h = absurd (omega (arith, h))
+some_by [] false h = sym none_left
+some_by (j ∷ js) true h = sym (one_more j (length js))
+some_by (j ∷ js) false h = absurd (cc)
+
+-- there is a place of a type
+pub placed_by : (t : ℕ) (m : Kinds) (b : Bool) → MatchBool b (0 < length (kind_places t m)) (kind_places t m ≡ []) → b ≡ is_placed t m
+placed_by t m b h = some_by (kind_places t m) b h
 
 -- there is a place where a record passes
 some_places : (p : Record → Bool) (i : ℕ) (rs : List Record) → not (length (places_from p i rs) == 0) ≡ list_any p rs
@@ -99,7 +111,7 @@ module _ (z : ZoneState) (name : List (List ℕ)) (m : Kinds) (h : IsHeld z name
           (and_from (ends_name name f.one.owner) (not (same_name f.one.owner z.apex)) (same_ends name f.one.owner (same_back f.one.owner name q.0)) (not_from_false (same_name f.one.owner z.apex) o)))
 
   other : (t : ℕ) → t ≡ 2 → t ≢ 255
-  other t e = omega (arith, e)
+  other t e = λ k. omega (arith, e, k)
 
   -- what places say is so
   pub held_has : (t : ℕ) → t ≢ 255 → is_kept z name t m ≡ has_type z name t

@@ -10,6 +10,7 @@ use Rattle.dns_zone_tree.specs.Regions.{Region, Within, BelowCut, BelowDname, as
 use Rattle.dns_zone_tree.specs.Wildcards.{are_some, encloser, star, wildcard}
 use Rattle.dns_denial.specs.Accepted.{is_given, servers_owner, sought}
 use Rattle.dns_denial.specs.Denials.{CanBeDenied}
+use Rattle.dns_denial.specs.declared.hashed_denial.Closest.{Closest}
 use Rattle.dns_denial.specs.declared.hashed_denial.HashedDenial.{HashedDenial}
 use Rattle.dns_denial.specs.declared.hashed_denial.HashedDenial.TheVariants.{Own, Missing}
 use Rattle.dns_denial.specs.Nsec3.{AreApart, Hashing, IsApart, IsNear, IsWhole3, Nsec3State, closer, is_matched, proves_expansion3, proves_insecure3, proves_name_error3, proves_no_data3, proves_wildcard_no_data3, provable}
@@ -76,3 +77,10 @@ pub record AreClosest (h : Hashing) (ns : List Nsec3State) (name : List (List �
   pub next_near : IsNear h ns (closer h ns name) next
   pub is : above ≡ provable h ns name
   pub room : length (spell above) ≤ 253
+
+abbrev pub IsClosest : Hashing → List Nsec3State → List (List ℕ) → Closest → Type 0
+IsClosest h ns name c = AreClosest h ns name c.encloser.now c.next.now c.above
+
+-- a denial of the NSEC3s that are chosen for a name
+abbrev pub Denies : Hashing → List Nsec3State → List (List ℕ) → HashedDenial → Type 0
+Denies h ns name d = AreChosen h ns (denied_by d) name

@@ -5,7 +5,9 @@ use Rattle.dns_name.specs.Canonical.{same_name}
 use Rattle.dns_base.specs.Records.{data_type}
 use Rattle.dns_message.specs.declared.record.Record.{Record}
 use Rattle.dns_zone.specs.Owned.{ZoneState, is_asked}
-use Rattle.dns_zone.specs.Places.{Kinds, kind_places, places}
+use Rattle.dns_zone.specs.Places.{places}
+use Rattle.dns_zone_tree.specs.Kinds.{kind_places}
+use Rattle.dns_zone_tree.specs.declared.kinds.Kinds.{Kinds}
 use Rattle.dns_denial.specs.Nsecs.{AreSorted, NsecState, lists}
 use Rattle.dns_denial.specs.Validation.{matches}
 use Rattle.dns_denial.specs.Chains.{IsWhole, has_type, is_below_cut, is_told, must_have}

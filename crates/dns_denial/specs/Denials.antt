@@ -1,5 +1,6 @@
 -- Which NSECs of a zone deny what a reply says is absent (RFC 4035, section 3.1.3).
-use Rattle.std.specs.Prelude.{ℕ, ◌≡◌, ◌<◌, ◌⊎◌, length, Bool, true, false, ◌&&◌, not, List, [], ◌∷◌, nat_eq}
+use Rattle.std.specs.Prelude.{ℕ, ◌≡◌, ◌<◌, ◌⊎◌, length, Bool, true, false, ◌&&◌, not, List, [], ◌∷◌, nat_eq, Option, MatchOption}
+use Rattle.std.specs.Borrow.{Bor}
 use Rattle.std.specs.List.{Contains, list_any}
 use Rattle.dns_name.specs.Canonical.{same_name}
 use Rattle.dns_name.specs.Labels.{IsName, spell}
@@ -100,9 +101,25 @@ DsIsProvedAbsent = (ns : List NsecState) (cut : List (List ℕ)) (n : NsecState)
 abbrev pub AllBehind : List NsecState → List (List ℕ) → Type 0
 AllBehind ns name = (m : NsecState) → Contains ns m → is_before name m.owner ≡ true
 
+-- the last that is not behind a name, where there is one
+abbrev pub IsLastOf : List NsecState → List (List ℕ) → Option (Bor NsecState) → Type 0
+IsLastOf ns name o = MatchOption o (AllBehind ns name) (λ n. IsLast ns name n.now)
+
+-- the wildcard which an NSEC shows of a name is too long
+abbrev pub IsTooLong : NsecState → List (List ℕ) → Type 0
+IsTooLong n name = IsName name × (253 < length (spell (shown_encloser n name)))
+
 -- no NSEC is before the wildcard which one shows of a name, nor at it, or that wildcard is too long
 abbrev pub NoneBelow : List NsecState → NsecState → List (List ℕ) → Type 0
-NoneBelow ns n name = (IsName name × (253 < length (spell (shown_encloser n name)))) ⊎ AllBehind ns (shown_wildcard n name)
+NoneBelow ns n name = IsTooLong n name ⊎ AllBehind ns (shown_wildcard n name)
+
+-- the last that is not behind that wildcard, where there is one
+abbrev pub IsLastBelow : List NsecState → NsecState → List (List ℕ) → Option (Bor NsecState) → Type 0
+IsLastBelow ns n name o = MatchOption o (NoneBelow ns n name) (λ m. IsLast ns (shown_wildcard n name) m.now)
+
+-- the last that is not behind a name, and the last that is not behind the wildcard which that one shows
+abbrev pub AreLast : List NsecState → List (List ℕ) → NsecState → NsecState → Type 0
+AreLast ns name n m = IsLast ns name n × IsLast ns (shown_wildcard n name) m
 
 -- a chain that is whole for no zone which a name that doesn't exist is in
 abbrev pub HasNoZone : List NsecState → List (List ℕ) → Type 0

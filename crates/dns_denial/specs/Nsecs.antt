@@ -1,6 +1,7 @@
 -- NSEC records (RFC 4034, section 4).
-use Rattle.std.specs.Prelude.{ℕ, ◌≡◌, Bool, true, not, List, nat_eq}
+use Rattle.std.specs.Prelude.{ℕ, ◌≡◌, Bool, true, false, not, List, nat_eq}
 use Rattle.std.specs.List.{AllPairs, list_any}
+use Rattle.std.specs.List.Sorted.{IsPartitionPoint}
 use Rattle.std.specs.Ordering.{is_lt}
 use Rattle.dns_name.specs.Canonical.{name_cmp}
 
@@ -25,3 +26,7 @@ is_up_to name n = not (is_before name n.owner)
 -- each NSEC is before those behind it
 abbrev pub AreSorted : List NsecState → Type 0
 AreSorted ns = AllPairs (λ (m : NsecState) (n : NsecState). is_before m.owner n.owner ≡ true) ns
+
+-- how many NSECs have an owner that is not behind a name; they are the first ones
+abbrev pub IsCountUpTo : List NsecState → List (List ℕ) → ℕ → Type 0
+IsCountUpTo ns name count = IsPartitionPoint (λ (n : NsecState). is_up_to name n ≡ true) (λ (n : NsecState). is_up_to name n ≡ false) ns count

@@ -4,9 +4,8 @@ ghost use Rattle.std.specs.Prelude.{◌≡◌, None, IfOk, IfSome, MatchOption, 
 ghost use Rattle.dns_zone_tree.specs.TreeErrors.{tree_error};
 ghost use Rattle.dns_denial.specs.Chains.{IsChained};
 ghost use Rattle.dns_denial.specs.Checks.{Breaks};
-ghost use Rattle.dns_denial.specs.Denials.{AllBehind, HasNoZone, IsLast, NoneBelow, ProvesExpansion, ProvesInsecure, ProvesNameError, ProvesNoData, ProvesNoDs, ProvesWildcardNoData};
+ghost use Rattle.dns_denial.specs.Denials.{AreLast, HasNoZone, IsLastBelow, IsLastOf, ProvesExpansion, ProvesInsecure, ProvesNameError, ProvesNoData, ProvesNoDs, ProvesWildcardNoData};
 ghost use Rattle.dns_denial.specs.Nsecs.{AreSorted};
-ghost use Rattle.dns_denial.specs.Validation.{shown_wildcard};
 
 use crate::chain_error::ChainError;
 use crate::check::checked;
@@ -79,7 +78,7 @@ impl Chain {
     /// The NSEC that denies a type at a name that exists; that denies a name, where a wildcard stands for it; or that says of a
     /// delegation point that it has no DS.
     pub fn denial(&self, alloc: Global, name: &NameRef<'_>) -> Result<Option<&Nsec>, OutOfMemory>
-        ensures last { IfOk result (λ o. MatchOption o (AllBehind self.now name.now) (λ n. IsLast self.now name.now n.now)) }
+        ensures last { IfOk result (IsLastOf self.now name.now) }
         ensures no_data { IfOk result (λ o. IfSome o (λ n. ProvesNoData self.now name.now n.now)) }
         ensures expansion { IfOk result (λ o. IfSome o (λ n. ProvesExpansion self.now name.now n.now)) }
         ensures insecure { IfOk result (λ o. IfSome o (λ n. ProvesInsecure self.now name.now n.now)) }
@@ -94,7 +93,7 @@ impl Chain {
 
     /// The last NSEC that isn't behind a name.
     fn last_up_to(&self, alloc: Global, name: &NameRef<'_>) -> Result<Option<&Nsec>, OutOfMemory>
-        ensures { IfOk result (λ o. MatchOption o (AllBehind self.now name.now) (λ n. IsLast self.now name.now n.now)) }
+        ensures { IfOk result (IsLastOf self.now name.now) }
     {
         let nsecs = self.nsecs();
         last_of(nsecs, alloc, name)
@@ -107,7 +106,7 @@ impl Chain {
         alloc: Global,
         name: &NameRef<'_>,
     ) -> Result<Option<Denial<'_>>, OutOfMemory>
-        ensures last { IfOk result (λ d. MatchOption d (HasNoZone self.now name.now) (λ b. IsLast self.now name.now b.name.now × IsLast self.now (shown_wildcard b.name.now name.now) b.wildcard.now)) }
+        ensures last { IfOk result (λ d. MatchOption d (HasNoZone self.now name.now) (λ b. AreLast self.now name.now b.name.now b.wildcard.now)) }
         ensures name_error { IfOk result (λ d. IfSome d (λ b. ProvesNameError self.now name.now b.name.now b.wildcard.now)) }
         ensures no_data { IfOk result (λ d. IfSome d (λ b. ProvesWildcardNoData self.now name.now b.name.now b.wildcard.now)) }
     {
@@ -132,7 +131,7 @@ impl Chain {
         nsec: &Nsec,
         name: &NameRef<'_>,
     ) -> Result<Option<&Nsec>, OutOfMemory>
-        ensures { IfOk result (λ o. MatchOption o (NoneBelow self.now nsec.now name.now) (λ m. IsLast self.now (shown_wildcard nsec.now name.now) m.now)) }
+        ensures { IfOk result (IsLastBelow self.now nsec.now name.now) }
     {
         match wildcard(alloc, nsec, name)? {
             Some(below) => self.last_up_to(alloc, &below.for_ref()),

@@ -1,7 +1,7 @@
 //! The closest encloser that an NSEC shows, and the wildcard below it.
 
-ghost use Rattle.std.specs.Prelude.{◌≡◌, ◌<◌, length, IfOk, MatchOption};
-ghost use Rattle.dns_name.specs.Labels.{IsName, spell};
+ghost use Rattle.std.specs.Prelude.{◌≡◌, IfOk, MatchOption};
+ghost use Rattle.dns_denial.specs.Denials.{IsTooLong};
 ghost use Rattle.dns_denial.specs.Validation.{shown_encloser, shown_wildcard};
 
 use crate::nsec::Nsec;
@@ -29,7 +29,7 @@ pub(crate) fn wildcard(
     nsec: &Nsec,
     name: &NameRef<'_>,
 ) -> Result<Option<Name>, OutOfMemory>
-    ensures { IfOk result (λ w. MatchOption w (IsName name.now × (253 < length (spell (shown_encloser nsec.now name.now)))) (λ n. n ≡ shown_wildcard nsec.now name.now)) }
+    ensures { IfOk result (λ w. MatchOption w (IsTooLong nsec.now name.now) (λ n. n ≡ shown_wildcard nsec.now name.now)) }
 {
     let _octets = name.as_slice();
     wildcard_below(alloc, &encloser(nsec, name))

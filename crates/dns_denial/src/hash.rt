@@ -1,15 +1,32 @@
 //! The hashes of names (RFC 5155, section 5).
 
-ghost use Rattle.std.specs.Prelude.{◌≡◌, ◌++◌, ◌∷◌, ◌<◌, length, map, IfOk, OnOk};
+ghost use Rattle.std.specs.Prelude.{◌≡◌, ◌++◌, ◌∷◌, ◌<◌, length, map, IfOk, OnOk, Some, MatchResult};
 ghost use Rattle.std.specs.Char.{to_ascii_lowercase};
 ghost use Rattle.sha1.specs.Sha1.{sha1};
 ghost use Rattle.dns_name.specs.Labels.{AreLabels, folded, spell};
+ghost use Rattle.dns_denial.specs.Hashes.{Hashes, hashing_error};
 ghost use Rattle.dns_denial.specs.Nsec3.{hash_of, iterated};
 
 use dns_name::{Labels, NameRef, OutOfMemory, push_lower};
 use sha1::Sha1;
 use std::alloc::Global;
 use std::marker::Model;
+
+/// The largest number of additional iterations.
+const MAX_ITERATIONS: u16 = 100;
+
+/// The largest number of octets of a salt.
+const MAX_SALT: usize = 32;
+
+/// Why parameters of NSEC3 are refused: resolvers may treat a zone with such ones as insecure, or answer SERVFAIL (RFC 9276,
+/// section 3.2).
+#[derive(Clone, Copy, Debug)]
+pub enum HashingError {
+    /// More than 100 additional iterations.
+    Iterations,
+    /// A salt of more than 32 octets.
+    Salt,
+}
 
 /// The salt and the number of additional iterations of NSEC3PARAM, with hash algorithm 1, SHA-1.
 #[derive(Drop)]
@@ -71,11 +88,17 @@ fn canonical(alloc: Global, labels: Labels<'_>) -> Result<Vec<u8>, OutOfMemory>
 }
 
 impl Hashing {
-    /// Hashing with a salt.
-    pub fn new(salt: Vec<u8>, iterations: u16) -> Hashing
-        ensures { result ≡ record { salt = salt.items; iterations = iterations } }
+    /// Hashing with a salt. Refused for more than 100 iterations, or else for a salt of more than 32 octets.
+    pub fn new(salt: Vec<u8>, iterations: u16) -> Result<Hashing, HashingError>
+        ensures { MatchResult result (Hashes salt.items iterations) (λ e. hashing_error salt.items iterations ≡ Some e) }
     {
-        Hashing { salt, iterations }
+        if iterations > MAX_ITERATIONS {
+            return Err(HashingError::Iterations);
+        }
+        if salt.len() > MAX_SALT {
+            return Err(HashingError::Salt);
+        }
+        Ok(Hashing { salt, iterations })
     }
 
     /// The hash of a name.

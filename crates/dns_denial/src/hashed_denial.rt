@@ -2,7 +2,7 @@
 
 ghost use Rattle.std.specs.Prelude.{◌≡◌, ◌<◌, ◌≤◌, ◌∷◌, length, false, IfOk, MatchOption};
 ghost use Rattle.dns_name.specs.Labels.{spell};
-ghost use Rattle.dns_denial.specs.Accepted3.{AreChosen, AreClosest, HasNoZone3, denied_by};
+ghost use Rattle.dns_denial.specs.Accepted3.{Denies, HasNoZone3, IsClosest};
 ghost use Rattle.dns_denial.specs.Hashes.{AreSorted3};
 ghost use Rattle.dns_denial.specs.Nsec3.{IsNear, is_matched};
 
@@ -73,7 +73,7 @@ fn closest_of<'a, 'n>(
     requires some { 0 < length nsecs.now }
     requires near { IsNear hashing.now nsecs.now name.now own.now }
     requires unmatched { is_matched hashing.now nsecs.now name.now ≡ false }
-    ensures { IfOk result (λ o. MatchOption o (HasNoZone3 hashing.now nsecs.now name.now) (λ c. AreClosest hashing.now nsecs.now name.now c.encloser.now c.next.now c.above)) }
+    ensures { IfOk result (λ o. MatchOption o (HasNoZone3 hashing.now nsecs.now name.now) (IsClosest hashing.now nsecs.now name.now)) }
 {
     let mut left = name.behind(0);
     let mut next = own;
@@ -104,7 +104,7 @@ impl HashedChain {
         hashing: &Hashing,
         name: &NameRef<'_>,
     ) -> Result<Option<HashedDenial<'_>>, OutOfMemory>
-        ensures { IfOk result (λ d. MatchOption d (HasNoZone3 hashing.now self.now name.now) (λ b. AreChosen hashing.now self.now (denied_by b) name.now)) }
+        ensures { IfOk result (λ d. MatchOption d (HasNoZone3 hashing.now self.now name.now) (Denies hashing.now self.now name.now)) }
     {
         let nsecs = self.nsecs();
         if nsecs.is_empty() {

@@ -4,7 +4,8 @@
 //! - `Chain` holds the `Nsec`s of a zone in canonical order. `check` decides whether it is whole for a `ZoneTree`, and
 //!   says where it isn't (`ChainError`). `denial` and `wildcard_denial` choose those of a reply.
 //! - `HashedChain` holds the `Nsec3`s of a zone in the order of their hashes. `denial` chooses those of a reply.
-//! - `Hashing` is the hash of names that NSEC3PARAM tells.
+//! - `Hashing` is the hash of names that NSEC3PARAM tells. More than 100 iterations, or a salt of more than 32 octets, are
+//!   refused (`HashingError`; RFC 9276, section 3.2).
 //!
 //! Nothing here makes or verifies a signature, or holds a key: zones are signed elsewhere.
 //!
@@ -24,7 +25,7 @@
 //!   says of a name (`each_absence_is_proved`): no such name, no data, an empty non-terminal, an expanded wildcard, no
 //!   data at a wildcard, a referral without DS, DS asked of the parent. They prove it among others too, so that the
 //!   NSECs of a chain of aliases are those of its names. The question isn't for RRSIG, NSEC or the DS of the apex.
-//! - The same by NSEC3, with Opt-Out or without (`each_absence_is_proved3`), where the hashes of the names that are
+//! - So do three NSEC3s, with Opt-Out or without (`each_absence_is_proved3`), where the hashes of the names that are
 //!   looked for are apart and the chain has a proof at all (`IsProvable`: a span with Opt-Out may leave out empty
 //!   non-terminals).
 //! - `check` gives Ok exactly for a chain that is whole. Its error is the first record or NSEC that breaks it, and a
@@ -54,7 +55,7 @@ mod wildcard;
 
 pub use chain::{Chain, Denial};
 pub use chain_error::ChainError;
-pub use hash::Hashing;
+pub use hash::{Hashing, HashingError};
 pub use hashed_denial::HashedDenial;
 pub use laws::{
     ds_is_proved_absent, each_absence_is_proved, each_absence_is_proved3, expansions_are_proved,

@@ -1,10 +1,9 @@
 //! The last NSEC of a chain that isn't behind a name.
 
-ghost use Rattle.std.specs.Prelude.{◌≡◌, ℕ, List, ◌≤◌, ◌↔◌, length, true, false, IsTrue, IfOk, MatchOption};
-ghost use Rattle.std.specs.List.Sorted.{IsPartitionPoint};
+ghost use Rattle.std.specs.Prelude.{◌≡◌, ℕ, List, ◌≤◌, ◌↔◌, length, IsTrue, IfOk};
 ghost use Rattle.dns_order.specs.Keys.{canonical_key};
-ghost use Rattle.dns_denial.specs.Nsecs.{AreSorted, is_up_to};
-ghost use Rattle.dns_denial.specs.Denials.{AllBehind, IsLast};
+ghost use Rattle.dns_denial.specs.Nsecs.{AreSorted, IsCountUpTo};
+ghost use Rattle.dns_denial.specs.Denials.{IsLastOf};
 
 use crate::nsec::Nsec;
 use dns_name::{NameRef, OutOfMemory};
@@ -15,7 +14,7 @@ use std::alloc::Global;
 fn count_up_to(nsecs: &[Nsec], key: &[u8]) -> usize
     requires { AreSorted nsecs.now }
     ensures bound { result ≤ length nsecs.now }
-    ensures point { (name : List (List ℕ)) → key.now ≡ canonical_key name → IsPartitionPoint (λ n. is_up_to name n ≡ true) (λ n. is_up_to name n ≡ false) nsecs.now result }
+    ensures point { (name : List (List ℕ)) → key.now ≡ canonical_key name → IsCountUpTo nsecs.now name result }
 {
     nsecs.partition_point(|nsec| nsec.is_up_to(key))
 }
@@ -23,7 +22,7 @@ fn count_up_to(nsecs: &[Nsec], key: &[u8]) -> usize
 /// The last NSEC that isn't behind the name of a key.
 fn last_up_to<'a>(nsecs: &'a [Nsec], key: &[u8]) -> Option<&'a Nsec>
     requires { AreSorted nsecs.now }
-    ensures { (name : List (List ℕ)) → key.now ≡ canonical_key name → MatchOption result (AllBehind nsecs.now name) (λ n. IsLast nsecs.now name n.now) }
+    ensures { (name : List (List ℕ)) → key.now ≡ canonical_key name → IsLastOf nsecs.now name result }
 {
     let count = count_up_to(nsecs, key);
     if count == 0 {
@@ -39,7 +38,7 @@ pub(crate) fn last_of<'a>(
     name: &NameRef<'_>,
 ) -> Result<Option<&'a Nsec>, OutOfMemory>
     requires { AreSorted nsecs.now }
-    ensures { IfOk result (λ o. MatchOption o (AllBehind nsecs.now name.now) (λ n. IsLast nsecs.now name.now n.now)) }
+    ensures { IfOk result (IsLastOf nsecs.now name.now) }
 {
     let key = canonical_key(alloc, name)?;
     Ok(last_up_to(nsecs, key.as_slice()))

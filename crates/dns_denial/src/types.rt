@@ -7,7 +7,7 @@ ghost use Rattle.dns_denial.specs.Checks.{IsHeld, StandsAt, is_kept, is_placed};
 use crate::records::{is_below_cut, is_cut_off, owns, owns_type};
 use crate::standing::Standing;
 use dns_name::Name;
-use dns_zone_tree::{ANY, Kinds, ZoneTree, all_in};
+use dns_zone_tree::{ANY, Kinds, ZoneTree};
 
 /// Whether a type's bit says something.
 pub(crate) fn is_told(rtype: u16) -> bool
@@ -20,7 +20,7 @@ pub(crate) fn is_told(rtype: u16) -> bool
 fn is_placed(kinds: &Kinds, rtype: u16) -> bool
     ensures { result ≡ is_placed rtype kinds.now }
 {
-    !all_in(kinds, rtype).is_empty()
+    kinds.has(rtype)
 }
 
 /// Whether a name must have an NSEC.

@@ -1,9 +1,9 @@
 -- The NSECs that are chosen are accepted.
-use Rattle.std.proofs.Common.{◌≡◌, ℕ, zero, suc, ◌+◌, ◌<◌, Bool, true, false, List, [], ◌∷◌, length, drop, get_or, Option, Some, None, nat_eq, refl, ap, sym, subst, ◌∙◌, arith, inl, inr}
+use Rattle.std.proofs.Common.{◌≡◌, ℕ, zero, suc, ◌+◌, ◌<◌, Bool, true, false, List, [], ◌∷◌, ◌++◌, length, drop, get_or, Option, Some, None, nat_eq, refl, ap, sym, subst, ◌∙◌, arith, inl, inr}
 use Rattle.std.specs.Prelude.{◌&&◌, ◌⊎◌}
-use Rattle.std.specs.List.{Contains, cons_option, list_any, slice_get}
+use Rattle.std.specs.List.{Contains, list_any, slice_get}
 use Rattle.std.proofs.lemmas.Bool.{true≢false, and_parts, cases_Bool}
-use Rattle.std.proofs.lemmas.List.{drop_more}
+use Rattle.std.proofs.lemmas.List.Elements.{filter_map-append}
 use Rattle.dns_message.specs.declared.record.Record.{Record}
 use Rattle.dns_name.specs.Canonical.{same_name}
 use Rattle.dns_route.specs.Routes.{ends_name}
@@ -11,7 +11,10 @@ use Rattle.dns_zone.specs.Cuts.{is_cut_off}
 use Rattle.dns_zone.specs.Owned.{ZoneState}
 use Rattle.dns_zone.specs.Places.{at_places}
 use Rattle.dns_zone.specs.ZoneReply.{exists}
+use Rattle.dns_zone_tree.specs.Kinds.{places_of}
 use Rattle.dns_zone_tree.specs.Regions.{Region, Within, BelowCut, BelowDname, asked_region}
+use Rattle.dns_zone_tree.specs.declared.kinds.TypedPlace.{TypedPlace}
+use Rattle.dns_zone_tree.proofs.KindLaws.{places_ahead}
 use Rattle.dns_denial.specs.Accepted.{HasWildcards, is_accepted, is_accepted_by, servers_owner, sought, sought_by}
 use Rattle.dns_denial.specs.Chains.{IsWhole}
 use Rattle.dns_denial.specs.Denials.{AllBehind, CanBeDenied, HasNoZone, IsAnswered, IsLast}
@@ -24,17 +27,20 @@ use Rattle.dns_denial.proofs.ListLaws.{present}
 use Rattle.dns_denial.proofs.NameLaws.{ends_itself}
 use Rattle.dns_denial.proofs.RegionLaws.{AtCut, asked_cut, reached}
 use Rattle.dns_denial.proofs.StartLaws.{starts, within_all}
-use Rattle.dns_signed_zone.specs.SignedZones.{AreAccepted, AreOfZone, IsOne, IsTwo, Proves, SignedState, head_of, one_of, proved_by}
+use Rattle.dns_signed_zone.specs.SignedZones.{AreAccepted, AreOfZone, IsAlone, ArePair, Proves, SignedState, head_of, one_of, proved_by}
 
 -- ---- the first record at places
 
-pub head_found : (rs : List Record) (is : List ℕ) (i : ℕ) (r : Record) → i < length is → Some r ≡ slice_get rs (get_or is i 0) → Some r ≡ head_of (at_places rs (drop i is))
-head_found rs is i r h e =
-    sym (ap (λ (x : List ℕ). head_of (at_places rs x)) (drop_more is i 0 h) ∙ ap (λ (o : Option Record). head_of (cons_option o (at_places rs (drop (i + 1) is)))) (sym e))
+module _ (rs : List Record) (t : ℕ) (ks : List TypedPlace) (i : ℕ) (d : TypedPlace) (h : i < length ks) where
+  -- the records from a place on
+  records_ahead : at_places rs (places_of t (drop i ks)) ≡ at_places rs (places_of t (get_or ks i d ∷ [])) ++ at_places rs (places_of t (drop (i + 1) ks))
+  records_ahead = ap (at_places rs) (places_ahead t ks i d h) ∙ filter_map-append (slice_get rs) (places_of t (get_or ks i d ∷ [])) (places_of t (drop (i + 1) ks))
 
-pub head_passed : (rs : List Record) (is : List ℕ) (i : ℕ) → i < length is → None ≡ slice_get rs (get_or is i 0) → head_of (at_places rs (drop (i + 1) is)) ≡ head_of (at_places rs (drop i is))
-head_passed rs is i h e =
-    sym (ap (λ (x : List ℕ). head_of (at_places rs x)) (drop_more is i 0 h) ∙ ap (λ (o : Option Record). head_of (cons_option o (at_places rs (drop (i + 1) is)))) (sym e))
+  pub head_found : (r : Record) → at_places rs (places_of t (get_or ks i d ∷ [])) ≡ r ∷ [] → Some r ≡ head_of (at_places rs (places_of t (drop i ks)))
+  head_found r e = sym (ap head_of (records_ahead ∙ ap (λ (l : List Record). l ++ at_places rs (places_of t (drop (i + 1) ks))) e))
+
+  pub head_passed : at_places rs (places_of t (get_or ks i d ∷ [])) ≡ [] → head_of (at_places rs (places_of t (drop (i + 1) ks))) ≡ head_of (at_places rs (places_of t (drop i ks)))
+  head_passed e = sym (ap head_of (records_ahead ∙ ap (λ (l : List Record). l ++ at_places rs (places_of t (drop (i + 1) ks))) e))
 
 pub head_owner : (rs : List Record) (r : Record) → Some r ≡ head_of rs → r.owner ≡ servers_owner rs
 head_owner [] r e = absurd (cc)
@@ -60,7 +66,7 @@ module _ (s : SignedState) (w : IsWhole s.zone s.nsecs) (t : ℕ) (name : List (
   nothing q c = absurd (omega (arith, c.1))
 
   -- one NSEC, for a name that exists
-  one_proves : (target : List (List ℕ)) → sought s.zone t name ≡ target → ends_name target s.zone.apex ≡ true → exists s.zone target ≡ true → (a b : Option NsecState) → IsOne s.nsecs target a b → Proves s t name (proved_by a b)
+  one_proves : (target : List (List ℕ)) → sought s.zone t name ≡ target → ends_name target s.zone.apex ≡ true → exists s.zone target ≡ true → (a b : Option NsecState) → IsAlone s.nsecs target a b → Proves s t name (proved_by a b)
   one_proves target e i x None b h = absurd (some_last s.zone s.nsecs target w i h)
   one_proves target e i x (Some n) None h = record {
     accepted = λ d. each_absence s.zone s.nsecs (n ∷ []) t name n w inside d (subst (λ (y : List (List ℕ)). IsLast s.nsecs y n) (sym e) h.0) (zero, omega arith, refl)
@@ -73,7 +79,7 @@ module _ (s : SignedState) (w : IsWhole s.zone s.nsecs) (t : ℕ) (name : List (
       some_none m e = absurd (cc)
 
   -- two, for a name that doesn't
-  two_prove : asked_region s.zone t name ≡ Within → exists s.zone name ≡ false → (a b : Option NsecState) → IsTwo s.nsecs name a b → Proves s t name (proved_by a b)
+  two_prove : asked_region s.zone t name ≡ Within → exists s.zone name ≡ false → (a b : Option NsecState) → ArePair s.nsecs name a b → Proves s t name (proved_by a b)
   two_prove e x None b h =
       let r = reached s.zone (starts s.zone w.zone) t name e in
       absurd (h s.zone w inside (record { cut = by_cut (cases_Bool (is_cut_off s.zone name)); dname = r.dname }) x)
@@ -92,13 +98,13 @@ module _ (s : SignedState) (w : IsWhole s.zone s.nsecs) (t : ℕ) (name : List (
 
   -- ---- by what a walk ends at
 
-  pub node_proves : asked_region s.zone t name ≡ Within → exists s.zone name ≡ true → (a b : Option NsecState) → IsOne s.nsecs name a b → Proves s t name (proved_by a b)
+  pub node_proves : asked_region s.zone t name ≡ Within → exists s.zone name ≡ true → (a b : Option NsecState) → IsAlone s.nsecs name a b → Proves s t name (proved_by a b)
   node_proves e x a b h = one_proves name (ap (sought_by name) e) inside x a b h
 
-  pub missing_proves : asked_region s.zone t name ≡ Within → exists s.zone name ≡ false → (a b : Option NsecState) → IsTwo s.nsecs name a b → Proves s t name (proved_by a b)
+  pub missing_proves : asked_region s.zone t name ≡ Within → exists s.zone name ≡ false → (a b : Option NsecState) → ArePair s.nsecs name a b → Proves s t name (proved_by a b)
   missing_proves e x a b h = two_prove e x a b h
 
-  pub cut_proves : (rs : List Record) → asked_region s.zone t name ≡ BelowCut rs → (owner : List (List ℕ)) → owner ≡ servers_owner rs → (a b : Option NsecState) → IsOne s.nsecs owner a b → Proves s t name (proved_by a b)
+  pub cut_proves : (rs : List Record) → asked_region s.zone t name ≡ BelowCut rs → (owner : List (List ℕ)) → owner ≡ servers_owner rs → (a b : Option NsecState) → IsAlone s.nsecs owner a b → Proves s t name (proved_by a b)
   cut_proves rs e owner o a b h =
       let c = asked_cut s.zone (starts s.zone w.zone) t name rs e in
       let k : sought s.zone t name ≡ owner = ap (sought_by name) e ∙ sym o in

@@ -1,12 +1,16 @@
 -- A zone with the chain of its NSEC records, and the NSECs of a reply.
 use Rattle.std.specs.Prelude.{ℕ, ◌≡◌, Bool, true, List, [], ◌∷◌, ◌++◌, Option, Some, None}
-use Rattle.std.specs.List.{AllByRecursion, Contains}
+use Rattle.std.specs.List.{Contains}
+use Rattle.std.specs.Option.{option_copied}
 use Rattle.dns_message.specs.declared.record.Record.{Record}
 use Rattle.dns_zone.specs.Owned.{ZoneState}
+use Rattle.dns_zone.specs.Places.{at_places}
+use Rattle.dns_zone_tree.specs.Kinds.{kind_places}
+use Rattle.dns_zone_tree.specs.declared.kinds.Kinds.{Kinds}
 use Rattle.dns_denial.specs.Accepted.{is_accepted}
-use Rattle.dns_denial.specs.Denials.{AllBehind, CanBeDenied, HasNoZone, IsLast}
+use Rattle.dns_denial.specs.Denials.{AllBehind, AreLast, CanBeDenied, HasNoZone, IsLast}
 use Rattle.dns_denial.specs.Nsecs.{NsecState}
-use Rattle.dns_denial.specs.Validation.{shown_wildcard}
+use Rattle.dns_signed_zone.specs.declared.reply_proofs.Proofs.{Proofs}
 
 pub record SignedState : Type 0 where
   pub zone : ZoneState
@@ -19,6 +23,9 @@ one_of (Some n) = n ∷ []
 -- the first and the second NSEC, where they are
 abbrev pub proved_by : Option NsecState → Option NsecState → List NsecState
 proved_by a b = one_of a ++ one_of b
+
+abbrev pub proofs_in : Proofs → List NsecState
+proofs_in p = proved_by (option_copied p.first) (option_copied p.second)
 
 -- What a name server replies for a name is accepted with them (RFC 4035, section 5.4).
 abbrev pub AreAccepted : SignedState → ℕ → List (List ℕ) → List NsecState → Type 0
@@ -39,13 +46,23 @@ abbrev pub head_of : List Record → Option Record
 head_of [] = None
 head_of (r ∷ rs) = Some r
 
+-- the NS records at the places of a name's records
+abbrev pub servers_at : ZoneState → Kinds → List Record
+servers_at z m = at_places z.records (kind_places 2 m)
+
 -- the last NSEC that is not behind a name, where there is one
-abbrev pub IsOne : List NsecState → List (List ℕ) → Option NsecState → Option NsecState → Type 0
-IsOne ns name None b = AllBehind ns name
-IsOne ns name (Some n) b = IsLast ns name n × (b ≡ None)
+abbrev pub IsAlone : List NsecState → List (List ℕ) → Option NsecState → Option NsecState → Type 0
+IsAlone ns name None b = AllBehind ns name
+IsAlone ns name (Some n) b = IsLast ns name n × (b ≡ None)
+
+abbrev pub IsOne : List NsecState → List (List ℕ) → Proofs → Type 0
+IsOne ns name p = IsAlone ns name (option_copied p.first) (option_copied p.second)
 
 -- and the last that is not behind the wildcard which that one shows
-abbrev pub IsTwo : List NsecState → List (List ℕ) → Option NsecState → Option NsecState → Type 0
-IsTwo ns name None b = HasNoZone ns name
-IsTwo ns name (Some n) None = ⊥
-IsTwo ns name (Some n) (Some m) = IsLast ns name n × IsLast ns (shown_wildcard n name) m
+abbrev pub ArePair : List NsecState → List (List ℕ) → Option NsecState → Option NsecState → Type 0
+ArePair ns name None b = HasNoZone ns name
+ArePair ns name (Some n) None = ⊥
+ArePair ns name (Some n) (Some m) = AreLast ns name n m
+
+abbrev pub IsTwo : List NsecState → List (List ℕ) → Proofs → Type 0
+IsTwo ns name p = ArePair ns name (option_copied p.first) (option_copied p.second)

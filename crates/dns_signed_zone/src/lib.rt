@@ -2,7 +2,7 @@
 //! 3.1.3).
 //!
 //! - `SignedZone::new` takes a zone and its `Chain`, and refuses a chain that isn't whole (`ChainError`).
-//! - `proofs` gives the NSECs for a name and a type, at most two.
+//! - `proofs` gives the NSECs for a name and a type, at most two. `is_in_zone` says of which names it may be asked.
 //!
 //! They are for the reply that dns_name_server makes of the zone: for each name of its chain of aliases they are asked for
 //! once, and stand in the authority section.

@@ -1,22 +1,27 @@
 //! A signed zone.
 
-ghost use Rattle.std.specs.Prelude.{◌≡◌, None, IfOk, IsTrue, MatchResult};
-ghost use Rattle.std.specs.List.{slice_get};
+ghost use Rattle.std.specs.Prelude.{◌≡◌, [], None, IfOk, IsTrue, MatchResult};
 ghost use Rattle.std.specs.Option.{option_copied};
 ghost use Rattle.dns_route.specs.Routes.{ends_name};
 ghost use Rattle.dns_zone.specs.Places.{at_places};
+ghost use Rattle.dns_zone_tree.specs.Kinds.{places_of};
 ghost use Rattle.dns_zone_tree.specs.TreeErrors.{tree_error};
+ghost use Rattle.dns_denial.specs.Accepted.{servers_owner};
 ghost use Rattle.dns_denial.specs.Chains.{IsWhole};
 ghost use Rattle.dns_denial.specs.Checks.{Breaks};
-ghost use Rattle.dns_signed_zone.specs.SignedZones.{IsOne, IsTwo, Proves, head_of, proved_by};
+ghost use Rattle.dns_signed_zone.specs.SignedZones.{IsOne, IsTwo, Proves, head_of, proofs_in, servers_at};
 
 use crate::reply_proofs::Proofs;
 use dns_base::Record;
 use dns_denial::{Chain, ChainError};
 use dns_name::{NameRef, OutOfMemory};
-use dns_zone_tree::{Walk, ZoneTree};
+use dns_route::matches_are_suffixes;
+use dns_zone_tree::{Kinds, TypedPlace, Walk, ZoneTree};
 use std::alloc::Global;
 use std::marker::Model;
+
+/// The type of the records that make a delegation point (RFC 1034, section 4.2.1).
+const NS: u16 = 2;
 
 /// A zone whose chain of NSECs is whole.
 #[derive(Drop)]
@@ -36,20 +41,13 @@ impl Model for SignedZone {
     ghost invariant = { λ s. IsWhole s.zone s.chain };
 }
 
-/// The record at a place, where there is one.
-fn record_at(records: &[Record], place: usize) -> Option<&Record>
-    ensures { option_copied result ≡ slice_get records.now place }
+/// The first NS record at places.
+fn first_server<'a>(records: &'a [Record], kinds: &[TypedPlace]) -> Option<&'a Record>
+    ensures { option_copied result ≡ head_of (at_places records.now (places_of 2 kinds.now)) }
 {
-    records.get(place)
-}
-
-/// The first record at places.
-fn first_at<'a>(records: &'a [Record], places: &[usize]) -> Option<&'a Record>
-    ensures { option_copied result ≡ head_of (at_places records.now places.now) }
-{
-    'each: for place in places {
-        if let Some(resource) = record_at(records, *place) {
-            return Some(resource);
+    'each: for kind in kinds {
+        if let Some(server) = kind.record(records, NS) {
+            return Some(server);
         }
     }
     None
@@ -57,7 +55,7 @@ fn first_at<'a>(records: &'a [Record], places: &[usize]) -> Option<&'a Record>
 
 /// The NSEC for a name that exists.
 fn one<'a>(chain: &'a Chain, alloc: Global, name: &NameRef<'_>) -> Result<Proofs<'a>, OutOfMemory>
-    ensures { IfOk result (λ p. IsOne chain.now name.now (option_copied p.first) (option_copied p.second)) }
+    ensures { IfOk result (IsOne chain.now name.now) }
 {
     match chain.denial(alloc, name)? {
         Some(nsec) => Ok(Proofs {
@@ -73,7 +71,7 @@ fn one<'a>(chain: &'a Chain, alloc: Global, name: &NameRef<'_>) -> Result<Proofs
 
 /// The NSECs for a name that doesn't exist.
 fn two<'a>(chain: &'a Chain, alloc: Global, name: &NameRef<'_>) -> Result<Proofs<'a>, OutOfMemory>
-    ensures { IfOk result (λ p. IsTwo chain.now name.now (option_copied p.first) (option_copied p.second)) }
+    ensures { IfOk result (IsTwo chain.now name.now) }
 {
     match chain.wildcard_denial(alloc, name)? {
         Some(denial) => Ok(Proofs {
@@ -87,6 +85,22 @@ fn two<'a>(chain: &'a Chain, alloc: Global, name: &NameRef<'_>) -> Result<Proofs
     }
 }
 
+/// The NSEC of a delegation point, given the places of its records.
+fn at_cut<'a>(
+    zone: &ZoneTree,
+    chain: &'a Chain,
+    alloc: Global,
+    kinds: &Kinds,
+) -> Result<Proofs<'a>, OutOfMemory>
+    requires { servers_at zone.now kinds.now ≡ [] → ⊥ }
+    ensures { IfOk result (IsOne chain.now (servers_owner (servers_at zone.now kinds.now))) }
+{
+    match first_server(zone.records(), kinds.as_slice()) {
+        Some(server) => one(chain, alloc, &server.owner.for_ref()),
+        None => unreachable!(),
+    }
+}
+
 /// The NSECs of a chain that prove what the reply of a zone says of a name, where a type is asked for.
 fn proofs_of<'a>(
     zone: &ZoneTree,
@@ -97,16 +111,13 @@ fn proofs_of<'a>(
 ) -> Result<Proofs<'a>, OutOfMemory>
     requires whole { IsWhole zone.now chain.now }
     requires inside { IsTrue (ends_name name.now zone.now.apex) }
-    ensures { IfOk result (λ p. Proves (record { zone = zone.now; nsecs = chain.now }) rtype name.now (proved_by (option_copied p.first) (option_copied p.second))) }
+    ensures { IfOk result (λ p. Proves (record { zone = zone.now; nsecs = chain.now }) rtype name.now (proofs_in p)) }
 {
     let found = zone.walk(alloc, name, rtype)?;
     match found {
         Walk::Node(_) => one(chain, alloc, name),
         Walk::Missing(_) => two(chain, alloc, name),
-        Walk::Cut(servers) => match first_at(zone.records(), servers) {
-            Some(server) => one(chain, alloc, &server.owner.for_ref()),
-            None => unreachable!(),
-        },
+        Walk::Cut(kinds) => at_cut(zone, chain, alloc, kinds),
         Walk::Dname(_) => Ok(Proofs {
             first: None,
             second: None,
@@ -141,6 +152,14 @@ impl SignedZone {
         &self.chain
     }
 
+    /// Whether a name is at or below the apex, so that `proofs` can be asked for it.
+    pub fn is_in_zone(&self, name: &NameRef<'_>) -> bool
+        ensures { result ≡ ends_name name.now self.now.zone.apex }
+    {
+        matches_are_suffixes();
+        name.ends_with(&self.zone.apex().for_ref())
+    }
+
     /// The NSECs that prove what the reply to a question says of a name, where a type is asked for: they are the zone's, and a
     /// validator accepts them.
     pub fn proofs(
@@ -150,7 +169,7 @@ impl SignedZone {
         rtype: u16,
     ) -> Result<Proofs<'_>, OutOfMemory>
         requires { IsTrue (ends_name name.now self.now.zone.apex) }
-        ensures { IfOk result (λ p. Proves self.now rtype name.now (proved_by (option_copied p.first) (option_copied p.second))) }
+        ensures { IfOk result (λ p. Proves self.now rtype name.now (proofs_in p)) }
     {
         proofs_of(&self.zone, &self.chain, alloc, name, rtype)
     }

@@ -1,9 +1,11 @@
 //! Rows of signed zones.
 
+ghost use Rattle.std.specs.Prelude.{◌≡◌, None};
+ghost use Rattle.dns_zone_tree.specs.TreeErrors.{tree_error};
+
 use crate::zones::next_records;
 use dns_denial::{Chain, Hashing, Nsec};
 use dns_name::{Name, NameRef};
-use dns_route::matches_are_suffixes;
 use dns_signed_zone::{Proofs, SignedZone};
 use dns_zone_tree::ZoneTree;
 use rows_table::{Calls, Row, RowError};
@@ -15,7 +17,7 @@ impl Calls for Signed {
     fn answer(&self, call: &str, row: &mut Row<'_>) -> Result<(), RowError> {
         match call {
             "nsec_hash" => hashed(row),
-            "signed" => signed(row),
+            "signed" => zone_of_row(row),
             _ => return Err(RowError::NoSuchCall),
         }
         Ok(())
@@ -27,28 +29,41 @@ fn hashed(row: &mut Row<'_>) {
     let salt = row.vector();
     let iterations = row.number();
     let name = row.name();
-    match Hashing::new(salt, iterations).hash(row.alloc(), &name) {
+    match Hashing::new(salt, iterations) {
+        Ok(hashing) => hash_said(row, &hashing, &name),
+        Err(error) => row.debug(&error),
+    }
+}
+
+/// The hash of a name.
+fn hash_said(row: &mut Row<'_>, hashing: &Hashing, name: &NameRef<'_>) {
+    match hashing.hash(row.alloc(), name) {
         Ok(hash) => row.hexadecimal(&hash),
         Err(_) => row.fail(RowError::OutOfMemory),
     }
 }
 
 /// Makes the zone of the next words, or says why it is refused.
-fn signed(row: &mut Row<'_>) {
+fn zone_of_row(row: &mut Row<'_>) {
     match Name::from_octets(row.vector()) {
-        Ok(apex) => {
-            let records = next_records(row);
-            match ZoneTree::new(row.alloc(), apex, records) {
-                Ok(zone) => chained(row, zone),
-                Err(error) => row.debug(&error),
-            }
-        }
+        Ok(apex) => zoned(row, apex),
         Err(_) => row.fail(RowError::OutOfForm),
     }
 }
 
+/// Makes the zone of an apex and the records of the next word, or says why they are refused.
+fn zoned(row: &mut Row<'_>, apex: Name) {
+    let records = next_records(row);
+    match ZoneTree::new(row.alloc(), apex, records) {
+        Ok(zone) => chained(row, zone),
+        Err(error) => row.debug(&error),
+    }
+}
+
 /// Gives the zone the chain of the next word, or says where that isn't whole.
-fn chained(row: &mut Row<'_>, zone: ZoneTree) {
+fn chained(row: &mut Row<'_>, zone: ZoneTree)
+    requires { tree_error zone.apex zone.records ≡ None }
+{
     match Chain::of(next_chain(row)) {
         Some(chain) => match SignedZone::new(row.alloc(), zone, chain) {
             Ok(zone) => asked(row, &zone),
@@ -69,8 +84,8 @@ fn next_chain(row: &mut Row<'_>) -> Vec<Nsec> {
 
 /// Appends the NSEC of an owner, a next name and types.
 fn push_nsec(row: &mut Row<'_>, nsecs: &mut Vec<Nsec>, word: &str) {
-    let (owner, rest) = word.split_once('/').unwrap_or((word, ""));
-    let (next, types) = rest.split_once('/').unwrap_or((rest, ""));
+    let (owner, rest) = word.split_once(':').unwrap_or((word, ""));
+    let (next, types) = rest.split_once(':').unwrap_or((rest, ""));
     let owner = row.name_of(owner).to_owned(row.alloc());
     let next = row.name_of(next).to_owned(row.alloc());
     let types = types_of(row, types);
@@ -104,8 +119,7 @@ fn asked(row: &mut Row<'_>, zone: &SignedZone) {
 
 /// What denies a name or a type at it.
 fn denied(row: &mut Row<'_>, zone: &SignedZone, name: &NameRef<'_>, rtype: u16) {
-    matches_are_suffixes();
-    if !name.ends_with(&zone.zone().apex().for_ref()) {
+    if !zone.is_in_zone(name) {
         row.say("outside");
         return;
     }
