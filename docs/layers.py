@@ -20,7 +20,7 @@ GROUPS = [
     ("Servers with controls", 2, 0, 1, "#f6d6c4", "dns_transport"),
     ("Scripts, run, floods", 2, 2, 2, "#f6d6c4", "dns_trace dns_script dns_flood dns_run"),
     ("Loops over links and sockets", 3, 0, 1, "#f6d6c4", "dns_recorder dns_stream_driver dns_dgram_driver dns_accepts dns_host dns_account dns_workers"),
-    ("Several zones, transfers", 3, 3, 1, "#f8e7b9", "dns_transfer dns_incoming dns_authority dns_zone_tree dns_name_server dns_secondary dns_secondary_service dns_generation"),
+    ("Several zones, transfers", 3, 3, 1, "#f8e7b9", "dns_transfer dns_incoming dns_authority dns_zone_tree dns_name_server dns_secondary dns_secondary_service dns_generation dns_sent_transfer"),
     ("A forwarding proxy", 3, 2, 1, "#f8e7b9", "dns_decide dns_lookup dns_proxy dns_fronts dns_upstreams dns_outstanding dns_proxy_config"),
     ("Links, sockets, clocks", 4, 0, 1, "#f6d6c4", "dns_io dns_memory dns_outside dns_witness dns_query_sock"),
     ("What each client is sent", 4, 1, 1, "#f8e7b9", "dns_framing dns_session dns_session_map dns_model dns_core"),
