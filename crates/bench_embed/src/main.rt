@@ -78,7 +78,7 @@ fn answered(
 fn built(alloc: Global, rule: &ReplyRule, query: &[u8], reply: &mut [u8]) -> Option<usize> {
     let mut held = ServiceReply::begin(alloc, query, Rcode::NOERROR, true).ok()??;
     let record = PlainRecord {
-        owner: NameRef::from_slice(&query[12..25]).ok()?,
+        owner: NameRef::from_slice(query.get(12..25)?).ok()?,
         rtype: Rtype::A,
         class: Class::IN,
         ttl: Ttl::from_secs(60),

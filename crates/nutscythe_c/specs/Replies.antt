@@ -88,7 +88,7 @@ abbrev pub ShowsReply : Option Built → List ℕ → List ℕ → ℕ → ℕ �
 ShowsReply (Some m) before after len len' t = PutsReply m.message before after len' t
 ShowsReply None before after len len' t = (t ≡ NoMemory) × Unwritten before after len len'
 
-abbrev pub WritesReply : ReplyRule → ServiceReply → ServiceReply → List ℕ → List ℕ → ℕ → ℕ → Status → Type 0
+unfoldable pub WritesReply : ReplyRule → ServiceReply → ServiceReply → List ℕ → List ℕ → ℕ → ℕ → Status → Type 0
 WritesReply rule a b before after len len' t = (result : Result (Unit {0}) NoneLeft) × RewritesTo rule a b result
     × ShowsReply (rewritten_in b) before after len len' t
 
