@@ -29,7 +29,7 @@ returns-then-header-clause-begun g c =
     let long : 12 ≤ length (message_of came) = subst (λ (o : List ℕ). 12 ≤ length o) c.in_ok-octets.ensures c.in-Ok.ensures.1 in
     let qr : (header_of c.in-Ok.message).qr ≡ true = rw (← c.header.ensures) c.if-header.true in
     let says = response f dgram came long (subst (λ (o : List ℕ). (header_of o).qr ≡ true) e qr) in
-    (says.0, λ (i : Item). ap (λ (o : List ℕ). outputs_to came (Some o)) (c.in_ok-refusal-then-header.ensures ∙ ap (refused_by came.transport dgram) e) ∙ says.1 i)
+    (says.0, λ (i : Item). ap (λ (o : List ℕ). outputs_to came (Some o)) (c.in_ok-refusal.ensures ∙ ap (refused_by came.transport dgram) e) ∙ says.1 i)
 
 pub returns-then-header-clause-front : goal.returns-then-header-clause-front
 returns-then-header-clause-front g c =
