@@ -21,5 +21,5 @@ returns-in-None-clause-written c = (
   c.rewrite-rewritten.result,
   c.rewrite-rewritten.ensures,
   subst (λ (x : Option Built). ShowsReply x c.args.octets.now c.args.octets.now c.args.octets_len.now c.args.octets_len.now NoMemory)
-      c.in-None.ensures (refl, refl, refl),
+      c.in-None.ensures (refl, (refl, refl)),
 )
