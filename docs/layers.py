@@ -34,7 +34,7 @@ GROUPS = [
     ("Messages", 8, 1, 3, "#d5d3ea", "dns_message dns_base dns_hmac dns_tsig"),
     ("Names and numbers", 9, 0, 4, "#d5d3ea", "dns_name dns_order"),
 ]
-COLUMN, GAP, HEIGHT, DOWN, EDGE = 232, 16, 62, 30, 12
+COLUMN, GAP, DOWN, EDGE = 280, 16, 30, 12
 
 
 def stands_on():
@@ -55,26 +55,9 @@ def arrows(crates):
     return sorted((a, b) for a, b in pairs if not any(b in reach(near) for near in below[a] - {b}))
 
 
-def place(group):
-    """Left, top and width of a group's box."""
-    _, row, column, wide, _, _ = GROUPS[group]
-    return EDGE + column * (COLUMN + GAP), EDGE + row * (HEIGHT + DOWN), wide * COLUMN + (wide - 1) * GAP
-
-
-def ends(upper, lower):
-    """Where an arrow begins and ends: straight down where the boxes stand above each other, else between their middles."""
-    (x, y, wide), (to_x, to_y, to_wide) = place(upper), place(lower)
-    left, right = max(x, to_x), min(x + wide, to_x + to_wide)
-    if left < right:
-        return (left + right) / 2, y + HEIGHT, (left + right) / 2, to_y
-    here = min(max(to_x + to_wide / 2, x + 30), x + wide - 30)
-    there = min(max(x + wide / 2, to_x + 30), to_x + to_wide - 30)
-    return here, y + HEIGHT, there, to_y
-
-
-def lines_of(crates, wide):
-    """The names of a group's crates, without their prefix, in lines that fit a box."""
-    lines, most = [""], int(wide / 6.2)
+def lines_of(crates, columns):
+    """The names of a group's crates, without their prefix, in lines that fit a box of so many columns."""
+    lines, most = [""], int((columns * (COLUMN + GAP) - GAP) / 6.7)
     for crate in crates.split():
         word = crate.removeprefix("dns_")
         if lines[-1] and len(lines[-1]) + len(word) + 2 > most:
@@ -83,10 +66,37 @@ def lines_of(crates, wide):
     return lines
 
 
+def rows():
+    """The top and the height of each row of boxes: as high as the one with the most lines."""
+    found, top = [], EDGE
+    for row in range(1 + max(it[1] for it in GROUPS)):
+        high = 32 + 15 * max(len(lines_of(it[5], it[3])) for it in GROUPS if it[1] == row)
+        found.append((top, high))
+        top += high + DOWN
+    return found
+
+
+def place(group):
+    """Left, top, width and height of a group's box."""
+    _, row, column, wide, _, _ = GROUPS[group]
+    return EDGE + column * (COLUMN + GAP), rows()[row][0], wide * (COLUMN + GAP) - GAP, rows()[row][1]
+
+
+def ends(upper, lower):
+    """Where an arrow begins and ends: straight down where the boxes stand above each other, else between their middles."""
+    (x, y, wide, high), (to_x, to_y, to_wide, _) = place(upper), place(lower)
+    left, right = max(x, to_x), min(x + wide, to_x + to_wide)
+    if left < right:
+        return (left + right) / 2, y + high, (left + right) / 2, to_y
+    here = min(max(to_x + to_wide / 2, x + 30), x + wide - 30)
+    there = min(max(x + wide / 2, to_x + 30), to_x + to_wide - 30)
+    return here, y + high, there, to_y
+
+
 def drawn(crates):
     """The picture."""
     wide = 4 * COLUMN + 3 * GAP + 2 * EDGE
-    down = 10 * (HEIGHT + DOWN) - DOWN + 2 * EDGE
+    down = sum(rows()[-1]) + EDGE
     parts = [
         f'<svg xmlns="http://www.w3.org/2000/svg" viewBox="0 0 {wide} {down}" font-family="sans-serif" role="img">',
         "<title>The crates of Nutscythe in groups, each with arrows to those that it stands on</title>",
@@ -97,12 +107,12 @@ def drawn(crates):
     for upper, lower in arrows(crates):
         x, y, to_x, to_y = ends(upper, lower)
         parts.append(f'<line x1="{x:.0f}" y1="{y}" x2="{to_x:.0f}" y2="{to_y}" stroke="#555555" marker-end="url(#tip)"/>')
-    for group, (title, _, _, _, color, names) in enumerate(GROUPS):
-        left, top, width = place(group)
+    for group, (title, _, _, columns, color, names) in enumerate(GROUPS):
+        left, top, width, high = place(group)
         middle = left + width / 2
-        parts.append(f'<rect x="{left}" y="{top}" width="{width}" height="{HEIGHT}" rx="5" fill="{color}" stroke="#555555"/>')
+        parts.append(f'<rect x="{left}" y="{top}" width="{width}" height="{high}" rx="5" fill="{color}" stroke="#555555"/>')
         parts.append(f'<text x="{middle:.0f}" y="{top + 19}" font-size="14" font-weight="bold" text-anchor="middle" fill="#111111">{escape(title)}</text>')
-        for number, line in enumerate(lines_of(names, width)):
+        for number, line in enumerate(lines_of(names, columns)):
             parts.append(f'<text x="{middle:.0f}" y="{top + 37 + 15 * number}" font-size="12" text-anchor="middle" fill="#333333">{escape(line)}</text>')
     return "\n".join([*parts, "</svg>", ""])
 
