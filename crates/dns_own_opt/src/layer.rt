@@ -4,8 +4,8 @@ ghost use Rattle.std.specs.Prelude.{◌≡◌};
 ghost use Rattle.dns_own_opt.specs.OwnOpts.{with_own_opt};
 
 use crate::rule::OwnOpt;
-use dns_layers::{Layered, of_mapped};
-use dns_service::{Now, OutOfMemory, Request, Service};
+use dns_rewriting::{RewrittenFuture, RewrittenStream};
+use dns_service::{OutOfMemory, Request, Service};
 use std::alloc::Global;
 
 /// A service whose replies state the server's own size over UDP and the request's DO, if they have an OPT record.
@@ -28,9 +28,9 @@ impl<S, Meta> Service<Meta> for OwnOptSvc<S>
 where
     S: Service<Meta>,
 {
-    type Stream = Layered<S, Meta, OwnOpt>;
+    type Stream = RewrittenStream<S::Stream, OwnOpt>;
 
-    type Future = Now<Layered<S, Meta, OwnOpt>>;
+    type Future = RewrittenFuture<S::Future, OwnOpt>;
 
     ghost answer = { λ s. with_own_opt s.size (S.answer s.next) };
 
@@ -42,14 +42,9 @@ where
         &self,
         alloc: Global,
         request: &mut Request<Meta>,
-    ) -> Result<Now<Layered<S, Meta, OwnOpt>>, OutOfMemory> {
-        let Ok(original) = request.try_clone(alloc, ()) else {
-            return Err(OutOfMemory);
-        };
+    ) -> Result<RewrittenFuture<S::Future, OwnOpt>, OutOfMemory> {
         let rule = OwnOpt::new(self.size, request.message());
-        match self.next.call(alloc, request) {
-            Ok(future) => Ok(of_mapped::<S, Meta, _>(future, original, rule)),
-            Err(error) => Err(error),
-        }
+        let future = self.next.call(alloc, request)?;
+        Ok(RewrittenFuture::new(future, Some(rule)))
     }
 }

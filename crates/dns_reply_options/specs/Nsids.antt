@@ -8,7 +8,8 @@ use Rattle.dns_opt.specs.OptRecords.{OptState, opt_of}
 use Rattle.dns_service.specs.Answer.{Answer}
 use Rattle.dns_service.specs.Cut.{sized}
 use Rattle.dns_service.specs.Req.{Req}
-use Rattle.dns_reply_options.specs.Carried.{and_option, each_rewritten, reply_limit}
+use Rattle.dns_rewriting.specs.Rewritings.{rewritten_replies}
+use Rattle.dns_reply_options.specs.Carried.{and_option}
 
 -- whether an OPT record of a request asks for the identifier
 abbrev pub asks_nsid : Option OptState → Bool
@@ -27,10 +28,6 @@ with_nsid nsid m = and_option (for_code 3 list_data) 3 nsid m
 abbrev pub nsid_by : List ℕ → Option ℕ → Msg → Msg
 nsid_by nsid n m = sized n (with_nsid nsid m)
 
--- the answers, by the identifier of the replies
-abbrev pub answers_by : {Meta : Type 0} → Option (List ℕ) → (Req Meta → ℕ → Answer) → (Req Meta → Option ℕ) → Req Meta → ℕ → Answer
-answers_by None answer hint r = answer r
-answers_by (Some nsid) answer hint r = each_rewritten (nsid_by nsid (reply_limit hint r)) answer r
-
+-- the answers of the service inside, each reply with that identifier
 abbrev pub nsids : {Meta : Type 0} → Option (List ℕ) → (Req Meta → ℕ → Answer) → (Req Meta → Option ℕ) → Req Meta → ℕ → Answer
-nsids nsid answer hint r = answers_by (nsid_for nsid r) answer hint r
+nsids nsid answer hint r = rewritten_replies nsid_by (nsid_for nsid r) answer hint r

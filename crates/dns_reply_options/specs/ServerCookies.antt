@@ -11,7 +11,8 @@ use Rattle.dns_service.specs.Req.{Req}
 use Rattle.dns_layers.specs.Cookies.{verdict}
 use Rattle.dns_layers.specs.declared.cookie_verdict.CookieVerdict.{CookieVerdict}
 use Rattle.dns_layers.specs.declared.cookie_verdict.CookieVerdict.TheVariants.{Absent, Malformed, Bare, Good, Wrong}
-use Rattle.dns_reply_options.specs.Carried.{and_option, each_rewritten, reply_limit}
+use Rattle.dns_rewriting.specs.Rewritings.{rewritten_replies}
+use Rattle.dns_reply_options.specs.Carried.{and_option}
 use Rattle.dns_reply_options.specs.declared.cookie_post.CookiePost.{CookiePost}
 
 -- a server cookie of version 1 that is no more than half an hour old
@@ -50,10 +51,6 @@ cookie_by p m = sized p.limit (with_cookie p.cookie m)
 abbrev pub cookie_rule : Cookie → Option ℕ → CookiePost
 cookie_rule c n = record { cookie = c; limit = n }
 
--- the answers, by the cookie of the replies
-abbrev pub answers_with : {Meta : Type 0} → Option Cookie → (Req Meta → ℕ → Answer) → (Req Meta → Option ℕ) → Req Meta → ℕ → Answer
-answers_with None answer hint r = answer r
-answers_with (Some c) answer hint r = each_rewritten (cookie_by (cookie_rule c (reply_limit hint r))) answer r
-
+-- the answers of the service inside, each reply with that cookie
 abbrev pub server_cookies : {Meta : Type 0} → Option (List ℕ) → (Req Meta → ℕ → Answer) → (Req Meta → Option ℕ) → Req Meta → ℕ → Answer
-server_cookies secret answer hint r = answers_with (cookie_for secret r) answer hint r
+server_cookies secret answer hint r = rewritten_replies (λ c n. cookie_by (cookie_rule c n)) (cookie_for secret r) answer hint r

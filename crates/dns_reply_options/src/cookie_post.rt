@@ -6,7 +6,7 @@ ghost use Rattle.dns_cookie.specs.CookieData.{cookie_data};
 ghost use Rattle.dns_opt.specs.OptData.{for_code};
 ghost use Rattle.dns_opt.specs.OptRecords.{opt_of};
 ghost use Rattle.dns_reply_options.specs.Carried.{lacks};
-ghost use Rattle.dns_reply_options.specs.ServerCookies.{cookie_by, with_cookie};
+ghost use Rattle.dns_reply_options.specs.ServerCookies.{cookie_by, cookie_rule, with_cookie};
 
 use crate::carried::put;
 use dns_base::AdditionalBuilder;
@@ -14,6 +14,7 @@ use dns_cookie::Cookie;
 use dns_layers::Rewrite;
 use dns_name::OutOfMemory;
 use dns_opt::{ComposeOptData, opt_of};
+use dns_rewriting::RuleOf;
 use dns_service::fit;
 use std::alloc::Global;
 
@@ -34,6 +35,14 @@ impl Rewrite for CookiePost {
         reply.clear_push_limit();
         with_cookie(alloc, self.cookie, reply)?;
         fit(alloc, self.limit, reply)
+    }
+}
+
+impl RuleOf<Cookie> for CookiePost {
+    ghost rewriting_of = { λ c n. cookie_by (cookie_rule c n) };
+
+    fn rule_of(cookie: Cookie, limit: Option<u16>) -> CookiePost {
+        CookiePost { cookie, limit }
     }
 }
 

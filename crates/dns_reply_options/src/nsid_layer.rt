@@ -1,15 +1,13 @@
 //! The layer that gives replies the identifier of the server.
 
-ghost use Rattle.std.specs.Prelude.{◌≡◌, IfOk, OnErr, Some};
+ghost use Rattle.std.specs.Prelude.{◌≡◌, IfOk};
 ghost use Rattle.dns_opt.specs.OptRecords.{opt_of};
-ghost use Rattle.dns_layers.specs.Calls.{AnswersAs, LeavesHint};
-ghost use Rattle.dns_reply_options.specs.Nsids.{answers_by, asks_nsid, nsid_for, nsids};
+ghost use Rattle.dns_reply_options.specs.Nsids.{asks_nsid, nsid_for, nsids};
 
-use crate::carried::{limit_now, pass};
 use crate::nsid_post::NsidPost;
-use dns_layers::{Layered, of_mapped};
 use dns_opt::{MessageOpt, Nsid};
-use dns_service::{Now, OutOfMemory, ReplyFuture, Request, Service};
+use dns_rewriting::{RewrittenFuture, RewrittenStream, call_rewritten};
+use dns_service::{OutOfMemory, Request, Service};
 use std::alloc::Global;
 
 /// A service whose replies to requests that ask for it carry the identifier of the server, if it has one (RFC 5001).
@@ -32,9 +30,9 @@ impl<S, Meta> Service<Meta> for NsidSvc<S>
 where
     S: Service<Meta>,
 {
-    type Stream = Layered<S, Meta, NsidPost>;
+    type Stream = RewrittenStream<S::Stream, NsidPost>;
 
-    type Future = Now<Layered<S, Meta, NsidPost>>;
+    type Future = RewrittenFuture<S::Future, NsidPost>;
 
     ghost answer = { λ s. nsids s.nsid (S.answer s.next) (S.hint s.next) };
 
@@ -46,11 +44,9 @@ where
         &self,
         alloc: Global,
         request: &mut Request<Meta>,
-    ) -> Result<Now<Layered<S, Meta, NsidPost>>, OutOfMemory> {
-        match nsid_for(alloc, &self.nsid, request)? {
-            Some(nsid) => identify(alloc, &self.next, request, nsid),
-            None => pass(alloc, &self.next, request),
-        }
+    ) -> Result<RewrittenFuture<S::Future, NsidPost>, OutOfMemory> {
+        let nsid = nsid_for(alloc, &self.nsid, request)?;
+        call_rewritten(alloc, &self.next, request, nsid)
     }
 }
 
@@ -78,31 +74,5 @@ fn nsid_for<Meta>(
     match nsid {
         Some(nsid) => Ok(Some(nsid.for_slice().to_owned(alloc)?)),
         None => Ok(None),
-    }
-}
-
-/// The inner replies, each with the identifier.
-fn identify<S: Service<Meta>, Meta>(
-    alloc: Global,
-    next: &S,
-    request: &mut Request<Meta>,
-    nsid: Nsid,
-) -> Result<Now<Layered<S, Meta, NsidPost>>, OutOfMemory>
-    requires { S.can_call next.now }
-    ensures answers { AnswersAs ⟦<Now<Layered<S, Meta, NsidPost>> as ReplyFuture>⟧.answer
-        (answers_by (Some nsid) (S.answer next.now) (S.hint next.now) request.old) result }
-    ensures kept { LeavesHint (S.hint next.now request.old) request.old request.new result }
-    ensures refused { OnErr result (request.new ≡ request.old) }
-{
-    let Ok(original) = request.try_clone(alloc, ()) else {
-        return Err(OutOfMemory);
-    };
-    match next.call(alloc, request) {
-        Ok(future) => {
-            let limit = limit_now(request);
-            let rule = NsidPost { nsid, limit };
-            Ok(of_mapped::<S, Meta, _>(future, original, rule))
-        }
-        Err(error) => Err(error),
     }
 }

@@ -13,6 +13,7 @@ use dns_base::AdditionalBuilder;
 use dns_layers::Rewrite;
 use dns_name::OutOfMemory;
 use dns_opt::{Nsid, opt_of};
+use dns_rewriting::RuleOf;
 use dns_service::fit;
 use std::alloc::Global;
 
@@ -33,6 +34,14 @@ impl Rewrite for NsidPost {
         reply.clear_push_limit();
         with_nsid(alloc, &self.nsid, reply)?;
         fit(alloc, self.limit, reply)
+    }
+}
+
+impl RuleOf<Nsid> for NsidPost {
+    ghost rewriting_of = { nsid_by };
+
+    fn rule_of(nsid: Nsid, limit: Option<u16>) -> NsidPost {
+        NsidPost { nsid, limit }
     }
 }
 
