@@ -1,7 +1,7 @@
 //! What a secondary server answers beside its zones.
 //!
 //! - `Withholding` is a layer round a service. A query for a name whose nearest zone has no data is answered SERVFAIL.
-//!   All else goes to the service.
+//!   All else goes to the service. `WithholdingFuture` and `WithholdingStream` are its replies.
 //! - `NotifyTarget` is a target of NOTIFY. Its verdict is a function of class, name and sender. A zone that was woken is
 //!   marked, and `take_woken` tells the mark to whoever checks the copies, and clears it.
 //!
@@ -27,6 +27,8 @@
 
 mod notify_target;
 mod withholding;
+mod withholding_replies;
 
 pub use notify_target::{Decided, NotifyTarget};
-pub use withholding::{Withholding, WithholdingStream};
+pub use withholding::Withholding;
+pub use withholding_replies::{WithholdingFuture, WithholdingStream};

@@ -12,20 +12,12 @@ ghost use Rattle.dns_layers.specs.Calls.{AnswersAs, LeavesHint};
 ghost use Rattle.dns_layers.specs.Rewritten.{own_reply};
 ghost use Rattle.dns_secondary_service.specs.Withheld.{asks_withheld, is_as_near, is_nearest, is_withheld, question_withheld, withholding, withholding_hint};
 
+use crate::withholding_replies::{WithholdingFuture, WithholdingStream};
 use dns_base::{AdditionalBuilder, Message, Name, Opcode, OptRcode, OutOfMemory, QuestionRef};
-use dns_layers::{of_inner, of_own};
+use dns_layers::alone;
 use dns_route::matches_are_suffixes;
-use dns_service::{ReplyFuture, Request, Service, mk_error_response};
-use dns_stream::{MiddlewareStream, Now, Once};
+use dns_service::{Now, ReplyFuture, Request, Service, mk_error_response};
 use std::alloc::Global;
-
-/// The stream of the layer round a service: the inner replies, or a reply of the layer's own.
-pub type WithholdingStream<S, Meta> = MiddlewareStream<
-    <S as Service<Meta>>::Future,
-    <S as Service<Meta>>::Stream,
-    Once,
-    Once,
->;
 
 /// A service behind zones that have no data: a query for a name whose nearest zone is one of them is answered SERVFAIL.
 #[derive(Drop)]
@@ -71,9 +63,9 @@ impl<S, Meta> Service<Meta> for Withholding<S>
 where
     S: Service<Meta>,
 {
-    type Stream = WithholdingStream<S, Meta>;
+    type Stream = WithholdingStream<S::Stream>;
 
-    type Future = Now<WithholdingStream<S, Meta>>;
+    type Future = WithholdingFuture<S::Future>;
 
     ghost answer = { λ s. withholding s.served.items s.withheld.items (S.answer s.next) };
 
@@ -85,9 +77,9 @@ where
         &self,
         alloc: Global,
         request: &mut Request<Meta>,
-    ) -> Result<Now<WithholdingStream<S, Meta>>, OutOfMemory> {
+    ) -> Result<WithholdingFuture<S::Future>, OutOfMemory> {
         if self.asks_withheld(request) {
-            return failed::<S, Meta>(alloc, request);
+            return failed(alloc, request.message());
         }
         pass(alloc, &self.next, request)
     }
@@ -101,15 +93,14 @@ fn servfail_reply(alloc: Global, request: &Message) -> Result<AdditionalBuilder,
 }
 
 /// The reply SERVFAIL, at once.
-fn failed<S: Service<Meta>, Meta>(
+fn failed<F: ReplyFuture>(
     alloc: Global,
-    request: &Request<Meta>,
-) -> Result<Now<WithholdingStream<S, Meta>>, OutOfMemory>
-    ensures { AnswersAs ⟦<Now<WithholdingStream<S, Meta>> as ReplyFuture>⟧.answer
-        (own_reply (error_reply request.now.octets servfail)) result }
+    request: &Message,
+) -> Result<WithholdingFuture<F>, OutOfMemory>
+    ensures { AnswersAs ⟦<WithholdingFuture<F> as ReplyFuture>⟧.answer (own_reply (error_reply request.now servfail)) result }
 {
-    let reply = servfail_reply(alloc, request.message())?;
-    Ok(of_own::<S, Meta, _>(reply))
+    let reply = servfail_reply(alloc, request)?;
+    Ok(WithholdingFuture::Own(Now::new(alone(reply))))
 }
 
 /// The inner replies to the request.
@@ -117,15 +108,15 @@ fn pass<S: Service<Meta>, Meta>(
     alloc: Global,
     next: &S,
     request: &mut Request<Meta>,
-) -> Result<Now<WithholdingStream<S, Meta>>, OutOfMemory>
+) -> Result<WithholdingFuture<S::Future>, OutOfMemory>
     requires { S.can_call next.now }
-    ensures answers { AnswersAs ⟦<Now<WithholdingStream<S, Meta>> as ReplyFuture>⟧.answer
+    ensures answers { AnswersAs ⟦<WithholdingFuture<S::Future> as ReplyFuture>⟧.answer
         (S.answer next.now request.old) result }
     ensures kept { LeavesHint (S.hint next.now request.old) request.old request.new result }
     ensures refused { OnErr result (request.new ≡ request.old) }
 {
     let future = next.call(alloc, request)?;
-    Ok(of_inner::<S, Meta, _, _>(future))
+    Ok(WithholdingFuture::Passing(future))
 }
 
 /// Whether a request is a query.
