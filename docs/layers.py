@@ -27,7 +27,7 @@ GROUPS = [
     ("What each client is sent", 4, 1, 1, "#f8e7b9", "dns_framing dns_session dns_session_map dns_model dns_core"),
     ("Zones, routers, caches", 4, 2, 1, "#f8e7b9", "dns_routes dns_route dns_zone dns_forward dns_cache"),
     ("Slots and configurations", 5, 1, 1, "#f8e7b9", "dns_admission dns_book_words dns_book dns_config"),
-    ("The four layers", 5, 2, 1, "#d7e8c8", "dns_layers dns_middleware dns_own_opt dns_udp_size dns_reply_counts dns_reply_options dns_transfer_notes dns_signing"),
+    ("The four layers", 5, 2, 1, "#d7e8c8", "dns_layers dns_middleware dns_rewriting dns_own_opt dns_udp_size dns_reply_counts dns_reply_options dns_transfer_notes dns_signing"),
     ("Requests, services, events", 6, 1, 2, "#d7e8c8", "dns_replies dns_events dns_service dns_stream"),
     ("EDNS options", 7, 1, 2, "#c9e2e6", "dns_lists dns_algs dns_kinds dns_cookie dns_option_list dns_options dns_opt dns_rate_limit"),
     ("Zone files", 7, 3, 1, "#c9e2e6", "dns_entries dns_word_values dns_presentation dns_zone_file dns_record_text dns_message_text dns_zone_include"),
