@@ -16,7 +16,8 @@ use Rattle.dns_zone.specs.ZoneReply.{exists, negative_soa}
 use Rattle.dns_zone.proofs.KeepLaws.{any_weaker}
 use Rattle.dns_zone.proofs.PathLaws.{begins_of, both_true, first_true, le_true, same_length, second_true, true_le}
 use Rattle.dns_zone.proofs.PlaceLaws.{at_places_of, no_records, places_agree, places_count, places_none}
-use Rattle.dns_zone_tree.specs.Kinds.{Names, kind_places, kinds_under, places_in}
+use Rattle.dns_zone_tree.specs.Kinds.{kind_places, places_in}
+use Rattle.dns_zone_tree.specs.Nodes.{Names, kinds_under}
 use Rattle.dns_zone_tree.specs.declared.kinds.Kinds.{Kinds}
 use Rattle.dns_zone_tree.specs.Names.{KnowsNames}
 use Rattle.dns_zone_tree.specs.Regions.{Region, Within, BelowCut, BelowDname, asked_region, down, is_cut, region}

@@ -5,6 +5,7 @@ pub mod Wildcards
 pub mod Regions
 pub mod Kinds
 pub mod Long
+pub mod Nodes
 pub mod Names
 pub mod TreeErrors
 pub mod Walks
