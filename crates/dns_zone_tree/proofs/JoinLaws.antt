@@ -7,6 +7,7 @@ use Rattle.std.specs.List.Sorted.{IsSortedBy}
 use Rattle.std.specs.Str.{bytes_eq}
 use Rattle.std.proofs.lemmas.Bool.{not-true, not-false}
 use Rattle.std.proofs.lemmas.List.Folds.{list_any-append}
+use Rattle.dns_zone_tree.specs.Joining.{AreBefore, AreBeforeFirst, AreRising, IsJoining, open_at}
 use Rattle.dns_zone_tree.specs.Nodes.{AreOrdered, IsJoined, begins, begins_keyed, begins_node, is_at, is_before, is_below, is_last, is_lower, key_of, noded_at, typed_at}
 use Rattle.dns_zone_tree.specs.declared.kinds.Kinds.{Kinds}
 use Rattle.dns_zone_tree.specs.declared.kinds.TypedPlace.{TypedPlace}
@@ -15,11 +16,6 @@ use Rattle.dns_zone_tree.specs.declared.names.Node.{Node}
 use Rattle.dns_zone_tree.proofs.KeyOrder.{below_trans, next_below}
 
 -- ---- sorted keys, one by one
-
-abbrev pub AreRising : List ℕ → List Keyed → Type 0
-AreRising o [] = Unit {0}
-AreRising o (x ∷ []) = Unit {0}
-AreRising o (x ∷ y ∷ ks) = (is_lower o y x ≡ false) × AreRising o (y ∷ ks)
 
 pub rising_of : (o : List ℕ) (ks : List Keyed) → IsSortedBy (is_lower o) ks → AreRising o ks
 rising_of o [] h = tt
@@ -33,26 +29,7 @@ rest_rising : (o : List ℕ) (x : Keyed) (ks : List Keyed) → AreRising o (x �
 rest_rising o x [] h = tt
 rest_rising o x (y ∷ ks) h = h.1
 
--- ---- nodes so far, places that aren't a node's yet, and records that are left
-
-abbrev pub AreBefore : List ℕ → List ℕ → List Node → Type 0
-AreBefore o p ns = AllByRecursion (λ (n : Node). is_before o p n ≡ true) ns
-
-abbrev pub AreBeforeFirst : List ℕ → List Node → List Keyed → Type 0
-AreBeforeFirst o ns [] = Unit {0}
-AreBeforeFirst o ns (k ∷ ks) = AreBefore o (key_of o k.span) ns
-
--- places of the key of the first record that is left
-abbrev pub open_at : List ℕ → List ℕ → List TypedPlace → List Keyed → List TypedPlace
-open_at o p ms [] = []
-open_at o p ms (k ∷ ks) = if is_at o p k then ms else []
-
-pub record IsJoining (o : List ℕ) (all : List Keyed) (ns : List Node) (ms : List TypedPlace) (ks : List Keyed) : Type 0 where
-  pub kept : (p : List ℕ) → noded_at o p ns ++ (open_at o p ms ks ++ typed_at o p ks) ≡ typed_at o p all
-  pub there : (p : List ℕ) → (list_any (begins_node o p) ns || list_any (begins_keyed o p) ks) ≡ list_any (begins_keyed o p) all
-  pub ordered : AreOrdered o ns
-  pub before : AreBeforeFirst o ns ks
-  pub rising : AreRising o ks
+-- ---- at first and at last
 
 nothing_open : (o p : List ℕ) (ks : List Keyed) → open_at o p [] ks ≡ []
 nothing_open o p [] = refl
@@ -66,17 +43,16 @@ first_before : (o : List ℕ) (ks : List Keyed) → AreBeforeFirst o [] ks
 first_before o [] = tt
 first_before o (k ∷ ks) = tt
 
-pub joining_first : (o : List ℕ) (all ks : List Keyed) (ns : List Node) (m : Kinds) → ns ≡ [] → m.places.items ≡ [] → ks ≡ all → IsSortedBy (is_lower o) all → IsJoining o all ns m.places.items ks
-joining_first o all ks ns m e f g h =
-    subst (λ (l : List Node). IsJoining o all l m.places.items ks) (sym e)
-    (subst (λ (l : List TypedPlace). IsJoining o all [] l ks) (sym f)
-    (subst (λ (l : List Keyed). IsJoining o all [] [] l) (sym g) (record {
+pub joining_first : (o : List ℕ) (all : List Keyed) (ns : List Node) (ms : List TypedPlace) → ns ≡ [] → ms ≡ [] → IsSortedBy (is_lower o) all → IsJoining o all ns ms all
+joining_first o all ns ms e f h =
+    subst (λ (l : List Node). IsJoining o all l ms all) (sym e)
+    (subst (λ (l : List TypedPlace). IsJoining o all [] l all) (sym f) (record {
       kept = λ p. ap (λ (l : List TypedPlace). l ++ typed_at o p all) (nothing_open o p all);
       there = λ p. refl;
       ordered = tt;
       before = first_before o all;
       rising = rising_of o all h;
-    })))
+    }))
 
 pub joining_last : (o : List ℕ) (all ks : List Keyed) (ns : List Node) (ms : List TypedPlace) → ks ≡ [] → IsJoining o all ns ms ks → IsJoined o all ns
 joining_last o all ks ns ms e h =
@@ -177,19 +153,17 @@ module _ (o : List ℕ) (all : List Keyed) (ns : List Node) (ms : List TypedPlac
       rising = rest_rising o k ks i.rising;
     }
 
--- ---- in the loop
+-- ---- as it is called
 
-module _ (o : List ℕ) (all ls ks : List Keyed) (ns : List Node) (old now : Kinds) (k : Keyed) (is : ls ≡ k ∷ ks) (pushed : now.places.items ≡ old.places.items ++ k.kind ∷ []) where
-  pub joining_same : is_last o (key_of o k.span) ks ≡ false → IsJoining o all ns old.places.items ls → IsJoining o all ns now.places.items ks
-  joining_same l i =
-      subst (λ (m : List TypedPlace). IsJoining o all ns m ks) (sym pushed) (by_next ks l (subst (IsJoining o all ns old.places.items) is i))
-    where
-      by_next : (xs : List Keyed) → is_last o (key_of o k.span) xs ≡ false → IsJoining o all ns old.places.items (k ∷ xs) → IsJoining o all ns (old.places.items ++ k.kind ∷ []) xs
-      by_next [] l2 h = absurd (cc)
-      by_next (j ∷ xs) l2 h = same_next o all ns old.places.items k j xs ((bytes_decides (key_of o k.span) (key_of o j.span)).0 (not-false (bytes_eq (key_of o k.span) (key_of o j.span)) l2)) h
+module _ (o : List ℕ) (all ks : List Keyed) (ns : List Node) (old now : Kinds) (k : Keyed) (pushed : now.places.items ≡ old.places.items ++ k.kind ∷ []) (i : IsJoining o all ns old.places.items (k ∷ ks)) where
+  by_next : (xs : List Keyed) → is_last o (key_of o k.span) xs ≡ false → IsJoining o all ns old.places.items (k ∷ xs) → IsJoining o all ns (old.places.items ++ k.kind ∷ []) xs
+  by_next [] l h = absurd (cc)
+  by_next (j ∷ xs) l h = same_next o all ns old.places.items k j xs ((bytes_decides (key_of o k.span) (key_of o j.span)).0 (not-false (bytes_eq (key_of o k.span) (key_of o j.span)) l)) h
 
-  pub joining_other : (n : Node) (all_nodes : List Node) (full fresh : Kinds) → all_nodes ≡ ns ++ n ∷ [] → n.span ≡ k.span → n.kinds ≡ full → full ≡ now → fresh.places.items ≡ [] → is_last o (key_of o k.span) ks ≡ true →
-      IsJoining o all ns old.places.items ls → IsJoining o all all_nodes fresh.places.items ks
-  joining_other n all_nodes full fresh m at its f e l i =
-      subst (λ (x : List Node). IsJoining o all x fresh.places.items ks) (sym m)
-      (other_next o all ns old.places.items k n at (ap (λ (x : Kinds). x.places.items) (its ∙ f) ∙ pushed) ks fresh.places.items e l (subst (IsJoining o all ns old.places.items) is i))
+  pub joining_same : is_last o (key_of o k.span) ks ≡ false → IsJoining o all ns now.places.items ks
+  joining_same l = subst (λ (m : List TypedPlace). IsJoining o all ns m ks) (sym pushed) (by_next ks l i)
+
+  pub joining_other : (new : List Node) (fresh : List TypedPlace) → new ≡ ns ++ (record { span = k.span; kinds = now }) ∷ [] → fresh ≡ [] → is_last o (key_of o k.span) ks ≡ true → IsJoining o all new fresh ks
+  joining_other new fresh m e l =
+      let n : Node = record { span = k.span; kinds = now } in
+      subst (λ (x : List Node). IsJoining o all x fresh ks) (sym m) (other_next o all ns old.places.items k n refl pushed ks fresh e l i)

@@ -1,6 +1,7 @@
 -- The order of keys: which comes before which, and which begin alike.
-use Rattle.std.proofs.Common.{◌≡◌, ℕ, Bool, true, false, List, length, take, take_all, refl, ap, sym, ◌∙◌, arith}
-use Rattle.std.specs.Prelude.{◌&&◌, not}
+use Rattle.std.proofs.Common.{◌≡◌, ℕ, ◌≤◌, ◌<◌, Bool, true, false, List, [], length, take, take_all, nat_le, refl, ap, sym, ◌∙◌, arith, inl, inr}
+use Rattle.std.specs.Prelude.{◌&&◌, ◌⊎◌, not, if◌then◌else◌}
+use Rattle.std.specs.List.{slice_range}
 use Rattle.std.specs.Cmp.{IsStrictWeakOrder}
 use Rattle.std.specs.Cmp.Lexicographic.{bytes_decides, nat_list_cmp_total, slice_cmp, texts_ties}
 use Rattle.std.specs.Ordering.{is_eq, is_gt, is_lt, nat_cmp, ordering_reverse}
@@ -8,9 +9,12 @@ use Rattle.std.specs.declared.cmp.Ordering.{Ordering}
 use Rattle.std.specs.declared.cmp.Ordering.TheVariants.{Less, Equal, Greater}
 use Rattle.std.specs.Str.{bytes_eq}
 use Rattle.std.proofs.lemmas.Bool.{true≢false, false_from_ne_true}
+use Rattle.std.proofs.lemmas.Bool.Decides.{nat_tests}
 use Rattle.std.proofs.lemmas.List.Sorted.{ranks_by}
 use Rattle.dns_zone.proofs.OrderLaws.{begins_behind, begins_between}
-use Rattle.dns_zone_tree.specs.Nodes.{begins, is_below}
+use Rattle.dns_zone.proofs.PathLaws.{le_true}
+use Rattle.dns_zone_tree.specs.Nodes.{begins, is_below, key_of}
+use Rattle.dns_zone_tree.specs.declared.names.Span.{Span}
 
 strict : IsStrictWeakOrder (λ (p q : List ℕ). is_below p q)
 strict = ranks_by nat_list_cmp_total (λ (k : List ℕ). k)
@@ -75,3 +79,24 @@ begins_not_below p k h = turned p k ∙ begins_behind p k h
 -- and what stands between begins with them too
 pub begins_amid : (p m k : List ℕ) → is_below m p ≡ false → is_below m k ≡ true → begins p k ≡ true → begins p m ≡ true
 begins_amid p m k g h b = begins_between p m k (sym (turned p m) ∙ g) (no_greater (slice_cmp nat_cmp m k) h) b
+
+-- ---- what is read as a key
+
+le_false : (a b : ℕ) → b < a → nat_le a b ≡ false
+le_false a b h = grind (arith, nat_tests)
+
+pub key_read : (o : List ℕ) (s : Span) (k : List ℕ) → s.start ≤ s.end → s.end ≤ length o → k ≡ slice_range o s.start s.end → k ≡ key_of o s
+key_read o s k a b e =
+    e
+    ∙ sym (ap (λ (c : Bool). if c && nat_le s.end (length o) then slice_range o s.start s.end else []) (le_true s.start s.end a)
+    ∙ ap (λ (c : Bool). if c then slice_range o s.start s.end else []) (le_true s.end (length o) b))
+
+none_read : (b : Bool) (k : List ℕ) → (if b && false then k else []) ≡ []
+none_read true k = refl
+none_read false k = refl
+
+pub key_unread : (o : List ℕ) (s : Span) → (s.end < s.start) ⊎ (length o < s.end) → [] ≡ key_of o s
+key_unread o s (inl h) = sym (ap (λ (c : Bool). if c && nat_le s.end (length o) then slice_range o s.start s.end else []) (le_false s.start s.end h))
+key_unread o s (inr h) =
+    sym (ap (λ (c : Bool). if nat_le s.start s.end && c then slice_range o s.start s.end else []) (le_false s.end (length o) h)
+    ∙ none_read (nat_le s.start s.end) (slice_range o s.start s.end))

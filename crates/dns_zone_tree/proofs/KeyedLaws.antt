@@ -8,7 +8,7 @@ use Rattle.std.specs.List.Sorted.{IsPermutation, IsStableBy, ties}
 use Rattle.std.specs.Str.{bytes_eq}
 use Rattle.std.proofs.Math.Seq.{drop-append_seam, take-append_seam}
 use Rattle.std.proofs.lemmas.Bool.Decides.{nat_tests}
-use Rattle.std.proofs.lemmas.List.{drop-append-le, length-drop, map-append, take-append-drop, take-append-le, take_more}
+use Rattle.std.proofs.lemmas.List.{drop-append-le, length-drop, length-take-le, map-append, take-append-drop, take-append-le, take_more}
 use Rattle.std.proofs.lemmas.List.Elements.{filter-append}
 use Rattle.std.proofs.lemmas.List.Folds.{Any-from_list_any, list_any-append}
 use Rattle.std.proofs.lemmas.List.Sorted.{list_any-IsPermutation}
@@ -162,19 +162,6 @@ module _ (o : List ℕ) (ks : List Keyed) (rs : List Record) (r : Record) (key :
         size = length-append o key ∙ ((λ i. h.size i + length (its i)) ∙ sym (sum_by_push (λ (x : Record). length (canonical_key x.owner)) rs r));
       }))
 
--- no record
-pub keyed_none : (o : List ℕ) (ks : List Keyed) (rs : List Record) → o ≡ [] → ks ≡ [] → IsKeyed o ks (take 0 rs)
-keyed_none o ks rs e f =
-    subst (λ (x : List ℕ). IsKeyed x ks (take 0 rs)) (sym e) (subst (λ (x : List Keyed). IsKeyed [] x (take 0 rs)) (sym f) (record {
-      kept = λ name t. refl;
-      there = λ name. refl;
-      within = tt;
-      size = refl;
-    }))
-
-pub keyed_next : (o : List ℕ) (ks : List Keyed) (rs : List Record) (i : ℕ) (r : Record) → i < length rs → r ≡ get_or rs i r → IsKeyed o ks (take i rs ++ r ∷ []) → IsKeyed o ks (take (i + 1) rs)
-keyed_next o ks rs i r h is k = subst (IsKeyed o ks) (ap (λ (x : Record). take i rs ++ x ∷ []) is ∙ sym (take_more rs i r h)) k
-
 -- ---- a list that is too large
 
 large_by : (a b : Bool) → (a || b) ≡ true → (if a || b then Some Large else None) ≡ Some Large
@@ -206,6 +193,35 @@ small_list rs o g h s =
     let a : nat_lt size_limit (length rs) ≡ false = grind (arith, nat_tests, g) in
     let b : nat_lt size_limit (keys_size rs) ≡ false = grind (arith, nat_tests, h, s) in
     ap (λ (c : Bool). if c then Some Large else None) (or_both (nat_lt size_limit (length rs)) (nat_lt size_limit (keys_size rs)) a b)
+
+-- ---- in the loop
+
+pub record IsKeying (o : List ℕ) (ks : List Keyed) (rs : List Record) (i : ℕ) : Type 0 where
+  pub keyed : IsKeyed o ks (take i rs)
+  pub room : length o ≤ size_limit
+
+pub keying_none : (o : List ℕ) (ks : List Keyed) (rs : List Record) → o ≡ [] → ks ≡ [] → IsKeying o ks rs 0
+keying_none o ks rs e f =
+    subst (λ (x : List ℕ). IsKeying x ks rs 0) (sym e) (subst (λ (x : List Keyed). IsKeying [] x rs 0) (sym f) (record {
+      keyed = record { kept = λ name t. refl; there = λ name. refl; within = tt; size = refl };
+      room = omega arith;
+    }))
+
+pub keying_next : (rs : List Record) (i : ℕ) (r : Record) (o : List ℕ) (ks : List Keyed) (key : List ℕ) (t : ℕ) (o2 : List ℕ) (ks2 : List Keyed) → i < length rs → r ≡ get_or rs i r → key ≡ canonical_key r.owner → t ≡ data_type r.rdata →
+    o2 ≡ o ++ key → ks2 ≡ ks ++ (record { span = record { start = length o; end = length o + length key }; kind = record { rtype = t; place = i } }) ∷ [] → length o + length key ≤ size_limit → IsKeying o ks rs i → IsKeying o2 ks2 rs (i + 1)
+keying_next rs i r o ks key t o2 ks2 h is its typed e f room k =
+    let x : Keyed = record { span = record { start = length o; end = length o + length key }; kind = record { rtype = t; place = i } } in
+    let n : i ≡ length (take i rs) = sym (length-take-le i rs (omega (arith, h))) in
+    let m : IsKeyed o2 ks2 (take i rs ++ r ∷ []) = keyed_more o ks (take i rs) r key x k.keyed its refl refl typed n o2 ks2 e f in
+    record {
+      keyed = subst (IsKeyed o2 ks2) (ap (λ (y : Record). take i rs ++ y ∷ []) is ∙ sym (take_more rs i r h)) m;
+      room = omega (arith, room, ap length e, length-append o key);
+    }
+
+pub keyed_all : (o : List ℕ) (ks : List Keyed) (rs : List Record) (i : ℕ) → length rs ≤ i → length rs ≤ size_limit → IsKeying o ks rs i → (size_error rs ≡ None) × IsKeyed o ks rs
+keyed_all o ks rs i h l k =
+    let w : IsKeyed o ks rs = subst (IsKeyed o ks) (take_all i rs h) k.keyed in
+    (small_list rs o l k.room w.size, w)
 
 -- ---- sorted by keys
 

@@ -7,7 +7,7 @@ use Rattle.std.specs.List.Sorted.{IsPartitionPoint, IsPartitionedBy}
 use Rattle.std.specs.Str.{bytes_eq}
 use Rattle.std.proofs.lemmas.Bool.{true≢false, false_from_ne_true}
 use Rattle.dns_zone_tree.specs.Kinds.{places_in, places_of}
-use Rattle.dns_zone_tree.specs.Nodes.{AreOrdered, begins, begins_node, is_before, is_below, key_of, kinds_among, kinds_by, noded_at}
+use Rattle.dns_zone_tree.specs.Nodes.{AreOrdered, begins, begins_node, is_before, is_below, key_of, kinds_among, node_kinds, noded_at}
 use Rattle.dns_zone_tree.specs.declared.kinds.Kinds.{Kinds}
 use Rattle.dns_zone_tree.specs.declared.kinds.TypedPlace.{TypedPlace}
 use Rattle.dns_zone_tree.specs.declared.names.Node.{Node}
@@ -36,7 +36,7 @@ module _ (o p : List ℕ) where
 -- what the node at a place keeps
 abbrev pub kept_by : List ℕ → Kinds → List ℕ → Option Node → Option Kinds
 kept_by o none p None = None
-kept_by o none p (Some n) = kinds_by o none p n
+kept_by o none p (Some n) = node_kinds o none p n
 
 module _ (o : List ℕ) (none : Kinds) (p : List ℕ) where
   not_begun : (n : Node) → begins_node o p n ≡ false → bytes_eq (key_of o n.span) p ≡ false
@@ -44,7 +44,7 @@ module _ (o : List ℕ) (none : Kinds) (p : List ℕ) where
 
   -- a node that doesn't begin with the octets is passed over
   over : (n : Node) (ns : List Node) → begins_node o p n ≡ false → kinds_among o none p (n ∷ ns) ≡ kinds_among o none p ns
-  over n ns b = ap (λ (c : Bool). if c then kinds_by o none p n else kinds_among o none p ns) b
+  over n ns b = ap (λ (c : Bool). if c then node_kinds o none p n else kinds_among o none p ns) b
 
   -- none behind a node that isn't before the octets, and doesn't begin with them, begins with them
   none_behind : (n : Node) (ns : List Node) → is_before o p n ≡ false → begins_node o p n ≡ false → AllByRecursion (IsAfter o p n) ns → kinds_among o none p ns ≡ None
@@ -52,7 +52,7 @@ module _ (o : List ℕ) (none : Kinds) (p : List ℕ) where
   none_behind n (m ∷ ns) h b a =
       over m ns (false_from_ne_true (begins_node o p m) (λ e. true≢false (sym (begins_amid p (key_of o n.span) (key_of o m.span) h a.0 e) ∙ b))) ∙ none_behind n ns h b a.1
 
-  found_here : (n : Node) (ns : List Node) (c : Bool) → begins_node o p n ≡ c → is_before o p n ≡ false → AllByRecursion (IsAfter o p n) ns → (if c then kinds_by o none p n else kinds_among o none p ns) ≡ kinds_by o none p n
+  found_here : (n : Node) (ns : List Node) (c : Bool) → begins_node o p n ≡ c → is_before o p n ≡ false → AllByRecursion (IsAfter o p n) ns → (if c then node_kinds o none p n else kinds_among o none p ns) ≡ node_kinds o none p n
   found_here n ns true b h a = refl
   found_here n ns false b h a =
       none_behind n ns h b a
@@ -70,7 +70,7 @@ module _ (o : List ℕ) (none : Kinds) (p : List ℕ) where
   found_at ns i w h = finds ns i w (λ k d l. h.0 k d (omega arith) l) (λ k d l m. h.1 k d l m)
 
   -- something is kept exactly where a node begins with the octets
-  some_step : (n : Node) (b c : Bool) (o2 : Option Kinds) → begins_node o p n ≡ b → is_some o2 ≡ c → is_some (if b then kinds_by o none p n else o2) ≡ (b || c)
+  some_step : (n : Node) (b c : Bool) (o2 : Option Kinds) → begins_node o p n ≡ b → is_some o2 ≡ c → is_some (if b then node_kinds o none p n else o2) ≡ (b || c)
   some_step n true c o2 e h = some_by (bytes_eq (key_of o n.span) p) (begins_node o p n) e
     where
       some_by : (x y : Bool) → y ≡ true → is_some (if x then Some n.kinds else (if y then Some none else None)) ≡ true
@@ -99,7 +99,7 @@ module _ (o : List ℕ) (none : Kinds) (p : List ℕ) where
     begun n rest false false e h = absurd (cc)
 
     by_begin : (n : Node) (ns : List Node) (c : Bool) → begins_node o p n ≡ c → AllByRecursion (IsAfter o p n) ns → places_in t (kinds_among o none p ns) ≡ places_of t (noded_at o p ns) →
-        places_in t (if c then kinds_by o none p n else kinds_among o none p ns) ≡ places_of t ((if bytes_eq (key_of o n.span) p then n.kinds.places.items else []) ++ noded_at o p ns)
+        places_in t (if c then node_kinds o none p n else kinds_among o none p ns) ≡ places_of t ((if bytes_eq (key_of o n.span) p then n.kinds.places.items else []) ++ noded_at o p ns)
     by_begin n ns true b a ih =
         begun n (noded_at o p ns) (bytes_eq (key_of o n.span) p) (begins_node o p n) (noded_none n ns (begins_not_below p (key_of o n.span) b) a) b
     by_begin n ns false b a ih =

@@ -78,14 +78,17 @@ pub record Names : Type 0 where
   pub nodes : List Node
   pub none : Kinds
 
--- what a node keeps of a key: what it has where the key is its own, and nothing where its own only begins with the key
-abbrev pub kinds_by : List ℕ → Kinds → List ℕ → Node → Option Kinds
-kinds_by o none p n = if bytes_eq (key_of o n.span) p then Some n.kinds else (if begins_node o p n then Some none else None)
+-- what is kept of a key: what is there where a node's key is it, and nothing where that only begins with it
+abbrev pub kinds_by : List ℕ → List ℕ → Kinds → Kinds → Option Kinds
+kinds_by own p kinds none = if bytes_eq own p then Some kinds else (if begins p own then Some none else None)
+
+abbrev pub node_kinds : List ℕ → Kinds → List ℕ → Node → Option Kinds
+node_kinds o none p n = kinds_by (key_of o n.span) p n.kinds none
 
 -- the first node whose key begins with octets
 abbrev pub kinds_among : List ℕ → Kinds → List ℕ → List Node → Option Kinds
 kinds_among o none p [] = None
-kinds_among o none p (n ∷ ns) = if begins_node o p n then kinds_by o none p n else kinds_among o none p ns
+kinds_among o none p (n ∷ ns) = if begins_node o p n then node_kinds o none p n else kinds_among o none p ns
 
 -- what is kept under octets
 abbrev pub kinds_under : Names → List ℕ → Option Kinds

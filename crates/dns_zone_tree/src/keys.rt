@@ -1,9 +1,12 @@
 //! How the index of a zone is made: the keys of all owners, sorted, and those of one name joined.
 
-ghost use Rattle.std.specs.Prelude.{◌≡◌, ◌+◌, ◌≤◌, ◌++◌, ◌∷◌, [], length, None, Err, IfOk, OnOk, MatchResult};
+ghost use Rattle.std.specs.Prelude.{◌≡◌, ◌+◌, ◌≤◌, ◌++◌, ◌∷◌, [], List, length, None, Err, IfOk, OnOk, MatchResult};
 ghost use Rattle.std.specs.List.Sorted.{IsPermutation, IsSortedBy, IsStableBy};
 ghost use Rattle.dns_zone.specs.Owned.{ZoneState};
+ghost use Rattle.dns_zone_tree.specs.declared.names.Keyed.{Keyed};
 ghost use Rattle.dns_zone_tree.specs.Names.{IsKeyed, KnowsNames};
+ghost use Rattle.dns_message.specs.declared.record.Record.{Record};
+ghost use Rattle.dns_zone_tree.specs.Joining.{IsJoining};
 ghost use Rattle.dns_zone_tree.specs.Nodes.{IsJoined, is_last, is_lower, key_of};
 ghost use Rattle.dns_zone_tree.specs.TreeErrors.{Makes, size_error, size_limit};
 
@@ -27,6 +30,16 @@ struct Keys {
 }
 
 impl Keys {
+    /// No keys, with room for so many records.
+    fn new(alloc: Global, count: usize) -> Result<Keys, OutOfMemory>
+        ensures octets { IfOk result (λ k. k.octets.items ≡ []) }
+        ensures keyed { IfOk result (λ k. k.keyed.items ≡ []) }
+    {
+        let octets = Vec::new(alloc);
+        let keyed = Vec::with_capacity(alloc, count)?;
+        Ok(Keys { octets, keyed })
+    }
+
     /// Keeps the key of the owner of one record more, and its type and place.
     fn push(&mut self, key: &[u8], rtype: u16, place: usize) -> Result<(), OutOfMemory>
         requires size { length self.old.octets.items + length key.now ≤ size_limit }
@@ -52,10 +65,7 @@ fn keys_of(alloc: Global, records: &[Record]) -> Result<Keys, TreeError>
     requires { length records.now ≤ size_limit }
     ensures { MatchResult result (λ k. (size_error records.now ≡ None) × IsKeyed k.octets.items k.keyed.items records.now) (λ e. (z : ZoneState) → Makes (size_error records.now) z (Err e)) }
 {
-    let mut keys = Keys {
-        octets: Vec::new(alloc),
-        keyed: Vec::with_capacity(alloc, records.len())?,
-    };
+    let mut keys = Keys::new(alloc, records.len())?;
     'each: for (place, record) in records.iter().enumerate() {
         let key = canonical_key(alloc, &record.owner.for_ref())?;
         if key.len() > SIZE_LIMIT - keys.octets.len() {
@@ -86,24 +96,64 @@ fn is_last(octets: &[u8], span: Span, behind: &[Keyed]) -> bool
     }
 }
 
+/// Nodes so far, and the places of the key that the next record has, for which there is none yet.
+#[derive(Drop)]
+struct Joining {
+    nodes: Vec<Node>,
+    open: Kinds,
+}
+
+impl Joining {
+    /// No nodes, with room for so many.
+    fn new(alloc: Global, count: usize) -> Result<Joining, OutOfMemory>
+        ensures nodes { IfOk result (λ j. j.nodes.items ≡ []) }
+        ensures open { IfOk result (λ j. j.open.places.items ≡ []) }
+    {
+        let nodes = Vec::with_capacity(alloc, count)?;
+        let open = Kinds::new(alloc);
+        Ok(Joining { nodes, open })
+    }
+
+    /// Makes the node of a key of the places that have none.
+    fn close(&mut self, alloc: Global, span: Span) -> Result<(), OutOfMemory>
+        ensures nodes { OnOk result (self.new.nodes.items ≡ self.old.nodes.items ++ (record { span = span; kinds = self.old.open }) ∷ []) }
+        ensures open { OnOk result (self.new.open.places.items ≡ []) }
+    {
+        let kinds = mem::replace(&mut self.open, Kinds::new(alloc));
+        self.nodes.push(Node { span, kinds })?;
+        Ok(())
+    }
+
+    /// Joins one record more, of which those behind it are given.
+    fn push(
+        &mut self,
+        alloc: Global,
+        octets: &[u8],
+        first: &Keyed,
+        behind: &[Keyed],
+    ) -> Result<(), OutOfMemory>
+        ensures { (all : List Keyed) → IsJoining octets.now all self.old.nodes.items self.old.open.places.items (first.now ∷ behind.now) → OnOk result (IsJoining octets.now all self.new.nodes.items self.new.open.places.items behind.now) }
+    {
+        self.open.push(first.kind)?;
+        if is_last(octets, first.span, behind) {
+            return self.close(alloc, first.span);
+        }
+        Ok(())
+    }
+}
+
 /// The nodes of the names of records that are sorted by keys.
 fn joined(alloc: Global, octets: &[u8], keyed: &[Keyed]) -> Result<Vec<Node>, OutOfMemory>
     requires { IsSortedBy (is_lower octets.now) keyed.now }
     ensures { IfOk result (λ v. IsJoined octets.now keyed.now v.items) }
 {
-    let mut nodes = Vec::with_capacity(alloc, keyed.len())?;
-    let mut kinds = Kinds::new(alloc);
+    let mut joining = Joining::new(alloc, keyed.len())?;
     let mut left = keyed;
     'each: while let Some((first, behind)) = left.split_first() {
-        kinds.push(first.kind)?;
-        if is_last(octets, first.span, behind) {
-            let kinds = mem::replace(&mut kinds, Kinds::new(alloc));
-            let span = first.span;
-            nodes.push(Node { span, kinds })?;
-        }
+        joining.push(alloc, octets, first, behind)?;
         left = behind;
     }
-    Ok(nodes)
+    Ok(joining.nodes)
 }
 
 /// The index of keys.

@@ -1,6 +1,6 @@
 //! The index of a zone: the names that own records, in the canonical order.
 
-ghost use Rattle.std.specs.Prelude.{◌≡◌, true, false, Some};
+ghost use Rattle.std.specs.Prelude.{◌≡◌, true, false};
 ghost use Rattle.std.specs.List.{slice_get};
 ghost use Rattle.std.specs.List.Sorted.{IsPartitionPoint};
 ghost use Rattle.std.specs.Option.{option_copied};
@@ -80,29 +80,29 @@ fn node_at(nodes: &[Node], place: usize) -> Option<&Node>
     nodes.get(place)
 }
 
-impl Names {
-    /// What a node keeps of a key: nothing where its own key only begins with it, as that of a name below does.
-    fn kinds_by<'a>(&'a self, node: &'a Node, key: &[u8]) -> Option<&'a Kinds>
-        ensures { option_copied result ≡ kinds_by self.now.octets self.now.none key.now node.now }
-    {
-        let own = key_of(self.octets.as_slice(), node.span);
-        if own == key {
-            return Some(&node.kinds);
-        }
-        if own.starts_with(key) {
-            return Some(&self.none);
-        }
-        None
+/// What is kept of a key: what is there where a node's key is it, and nothing where that only begins with it, as the key of a name
+/// below does.
+fn kinds_by<'a>(own: &[u8], key: &[u8], kinds: &'a Kinds, none: &'a Kinds) -> Option<&'a Kinds>
+    ensures { option_copied result ≡ kinds_by own.now key.now kinds.now none.now }
+{
+    if own == key {
+        return Some(kinds);
     }
+    if own.starts_with(key) {
+        return Some(none);
+    }
+    None
+}
 
-    /// What is kept of the name of a key, where it exists. The first node that doesn't come before the key has it, if any has.
+impl Names {
+    /// What is kept of the name of a key, where it exists. The first node that doesn't come before the key says it.
     pub(crate) fn kinds_at(&self, key: &[u8]) -> Option<&Kinds>
         ensures { option_copied result ≡ kinds_under self.now key.now }
     {
         let octets = self.octets.as_slice();
         let nodes = self.nodes.as_slice();
         match node_at(nodes, count_before(octets, nodes, key)) {
-            Some(node) => self.kinds_by(node, key),
+            Some(node) => kinds_by(key_of(octets, node.span), key, &node.kinds, &self.none),
             None => None,
         }
     }

@@ -1,6 +1,7 @@
 use Rattle.std.proofs.Common.{◌≡◌, ℕ, List, Some, ap, sym, subst, ◌∙◌}
 use Rattle.std.specs.List.{slice_get}
-use Rattle.dns_zone_tree.specs.Nodes.{AreOrdered, Names, kinds_among, kinds_by}
+use Rattle.dns_zone_tree.specs.Nodes.{AreOrdered, Names, key_of, kinds_among, kinds_by}
+use Rattle.dns_zone_tree.specs.declared.kinds.Kinds.{Kinds}
 use Rattle.dns_zone_tree.specs.declared.names.Node.{Node}
 use Rattle.dns_zone_tree.proofs.SearchLaws.{found_at, kept_by}
 use Rattle.dns_zone_tree.proofs.names.Names.kinds_at.Goals as goal
@@ -21,9 +22,12 @@ returns-in-Some c =
     let w = subst (λ (n : Names). AreOrdered n.octets n.nodes) c.self.view_is c.self.invariant in
     let v = subst (λ (l : List ℕ). AreOrdered l b) (sym ea) (subst (λ (l : List Node). AreOrdered z.octets l) (sym eb) w) in
     let found = found_at a z.none p b c.count_before.result v c.count_before.ensures in
+    let n = c.in-Some.node.now in
+    let none : c.self.inside.none ≡ z.none = ap (λ (x : Names). x.none) c.self.view_is in
     c.kinds_by.ensures
-    ∙ (ap (λ (l : List ℕ). kinds_by l z.none p c.in-Some.node.now) (sym ea)
-    ∙ (ap (kept_by a z.none p) c.in-Some.ensures ∙ (sym found ∙ (λ i. kinds_among (ea i) z.none p (eb i)))))
+    ∙ (ap (λ (l : List ℕ). kinds_by l p n.kinds c.self.inside.none) c.key_of.ensures
+    ∙ (ap (λ (k : Kinds). kinds_by (key_of a n.span) p n.kinds k) none
+    ∙ (ap (kept_by a z.none p) c.in-Some.ensures ∙ (sym found ∙ (λ i. kinds_among (ea i) z.none p (eb i))))))
 
 pub returns-in-None : goal.returns-in-None
 returns-in-None c =
