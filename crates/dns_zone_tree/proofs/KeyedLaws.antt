@@ -121,8 +121,7 @@ one_typed true t k = by_kind (is_kind t k.kind)
     by_kind false = refl
 one_typed false t k = refl
 
-module _ (o : List ℕ) (ks : List Keyed) (rs : List Record) (r : Record) (key : List ℕ) (k : Keyed) (h : IsKeyed o ks rs) (its : key ≡ canonical_key r.owner) (starts : k.span.start ≡ length o) (ends : k.span.end ≡ length o + length key)
-  (typed : k.kind.rtype ≡ data_type r.rdata) (placed : k.kind.place ≡ length rs) where
+module _ (o : List ℕ) (ks : List Keyed) (rs : List Record) (r : Record) (key : List ℕ) (k : Keyed) (h : IsKeyed o ks rs) (its : key ≡ canonical_key r.owner) (starts : k.span.start ≡ length o) (ends : k.span.end ≡ length o + length key) (typed : k.kind.rtype ≡ data_type r.rdata) (placed : k.kind.place ≡ length rs) where
   own_key : key_of (o ++ key) k.span ≡ canonical_key r.owner
   own_key = key_last o key k.span starts ends ∙ its
 

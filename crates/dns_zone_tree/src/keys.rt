@@ -20,7 +20,7 @@ use std::alloc::Global;
 use std::mem;
 
 /// How many records, and how many octets of keys, an index has at most.
-const SIZE_LIMIT: usize = 4294967295;
+const LARGEST: usize = 4294967295;
 
 /// The keys of the owners of records, behind one another, and for each record where its key lies, its type and its place.
 #[derive(Drop)]
@@ -68,7 +68,7 @@ fn keys_of(alloc: Global, records: &[Record]) -> Result<Keys, TreeError>
     let mut keys = Keys::new(alloc, records.len())?;
     'each: for (place, record) in records.iter().enumerate() {
         let key = canonical_key(alloc, &record.owner.for_ref())?;
-        if key.len() > SIZE_LIMIT - keys.octets.len() {
+        if key.len() > LARGEST - keys.octets.len() {
             return Err(TreeError::Large);
         }
         keys.push(key.as_slice(), record.rdata.rtype().to_int(), place)?;
@@ -175,9 +175,10 @@ fn indexed(alloc: Global, keys: Keys) -> Result<Names, OutOfMemory>
 pub(crate) fn names_of(alloc: Global, records: &[Record]) -> Result<Names, TreeError>
     ensures { MatchResult result (λ n. (size_error records.now ≡ None) × KnowsNames n records.now) (λ e. (z : ZoneState) → Makes (size_error records.now) z (Err e)) }
 {
-    if records.len() > SIZE_LIMIT {
+    if records.len() > LARGEST {
         return Err(TreeError::Large);
     }
     let keys = keys_of(alloc, records)?;
-    Ok(indexed(alloc, keys)?)
+    let names = indexed(alloc, keys)?;
+    Ok(names)
 }

@@ -19,8 +19,8 @@ returns-in-Some g c =
     let q : arc_value c.in_ok-query.query ≡ o = c.in_ok-query.ensures ∙ c.message.ensures in
     c.new.ensures ∙ (ap (λ x. transfer_from x (arc_value c.in_ok-query.query) 0) b ∙ (ap (λ x. transfer_from (bunched (transfer_records z)) x 0) q ∙ fun_ext (λ k. ap (transfer_of (bunched (transfer_records z)) o) (first k))))
 
-pub unreachable-in-None : goal.unreachable-in-None
-unreachable-in-None g c =
+pub unreachable-requires : goal.unreachable-requires
+unreachable-requires g c =
     let z = c.args.self.now.zone in
     let kept = c.self.invariant ∙ ap (λ (x : ServedState). kept_bunches x.allowed x.zone) c.self.view_is in
     let there = bunches_there c.args.self.now.allowed z c.args.request.now _ c.requires kept in
