@@ -20,10 +20,12 @@ use Rattle.dns_zone_tree.proofs.KeyOrder.{below_trans, next_below}
 pub rising_of : (o : List ℕ) (ks : List Keyed) → IsSortedBy (is_lower o) ks → AreRising o ks
 rising_of o [] h = tt
 rising_of o (x ∷ []) h = tt
-rising_of o (x ∷ y ∷ ks) h =
-    (h 0 x (omega arith) (omega arith), rising_of o (y ∷ ks) (λ k d a b.
+rising_of o (x ∷ y ∷ ks) h = (
+  h 0 x (omega arith) (omega arith),
+  rising_of o (y ∷ ks) (λ k d a b.
       let e : suc k + 1 ≡ suc (k + 1) = omega arith in
-      sym (ap (λ (i : ℕ). is_lower o (get_or (x ∷ y ∷ ks) i d) (get_or (y ∷ ks) k d)) e) ∙ h (suc k) d (omega arith) (omega (arith, b))))
+      sym (ap (λ (i : ℕ). is_lower o (get_or (x ∷ y ∷ ks) i d) (get_or (y ∷ ks) k d)) e) ∙ h (suc k) d (omega arith) (omega (arith, b))),
+)
 
 rest_rising : (o : List ℕ) (x : Keyed) (ks : List Keyed) → AreRising o (x ∷ ks) → AreRising o ks
 rest_rising o x [] h = tt

@@ -141,7 +141,7 @@ module _ (o : List ℕ) (ks : List Keyed) (rs : List Record) (r : Record) (key :
       ∙ (places_join t (kinds (f ks)) (kinds (f (k ∷ [])))
       ∙ (ap (λ (l : List ℕ). l ++ places_of t (kinds (f (k ∷ [])))) (ap (λ (l : List Keyed). places_of t (kinds l)) (filter_stays o key p ks h.within) ∙ h.kept name t)
       ∙ (ap (λ (l : List ℕ). places (is_asked name t) rs ++ l)
-        (one_typed (is_at (o ++ key) p k) t k ∙ (ap (λ (b : Bool). if b then k.kind.place ∷ [] else []) (is_same name t) ∙ ap (λ (i : ℕ). if is_asked name t r then i ∷ [] else []) placed))
+      (one_typed (is_at (o ++ key) p k) t k ∙ (ap (λ (b : Bool). if b then k.kind.place ∷ [] else []) (is_same name t) ∙ ap (λ (i : ℕ). if is_asked name t r then i ∷ [] else []) placed))
       ∙ sym (places_more (is_asked name t) rs r)))))
 
   more_there : (name : List (List ℕ)) → list_any (begins_keyed (o ++ key) (canonical_key name)) (ks ++ k ∷ []) ≡ list_any (λ (x : Record). ends_name x.owner name) (rs ++ r ∷ [])
