@@ -33,13 +33,13 @@ rest_rising o x (y ∷ ks) h = h.1
 
 -- ---- at first and at last
 
+either_none : (b : Bool) (l : List TypedPlace) → l ≡ [] → (if b then l else []) ≡ []
+either_none true l e = e
+either_none false l e = refl
+
 nothing_open : (o p : List ℕ) (ks : List Keyed) → open_at o p [] ks ≡ []
 nothing_open o p [] = refl
-nothing_open o p (k ∷ ks) = by_test (is_at o p k)
-  where
-    by_test : (b : Bool) → (if b then [] else []) ≡ []
-    by_test true = refl
-    by_test false = refl
+nothing_open o p (k ∷ ks) = either_none (is_at o p k) [] refl
 
 first_before : (o : List ℕ) (ks : List Keyed) → AreBeforeFirst o [] ks
 first_before o [] = tt

@@ -1,5 +1,5 @@
 -- What the index of a zone says of its records: where those of a name are, and which names exist.
-use Rattle.std.specs.Prelude.{ℕ, ◌≡◌, ◌≤◌, List, [], ◌∷◌, is_some, length, map}
+use Rattle.std.specs.Prelude.{ℕ, ◌≡◌, ◌≤◌, List, [], ◌∷◌, None, is_some, length, map}
 use Rattle.std.specs.List.{AllByRecursion, filter, list_any, position}
 use Rattle.dns_message.specs.declared.record.Record.{Record}
 use Rattle.dns_order.specs.Keys.{canonical_key}

@@ -100,26 +100,26 @@ fn is_last(octets: &[u8], span: Span, behind: &[Keyed]) -> bool
 #[derive(Drop)]
 struct Joining {
     nodes: Vec<Node>,
-    open: Kinds,
+    pending: Kinds,
 }
 
 impl Joining {
     /// No nodes, with room for so many.
     fn new(alloc: Global, count: usize) -> Result<Joining, OutOfMemory>
         ensures nodes { IfOk result (λ j. j.nodes.items ≡ []) }
-        ensures open { IfOk result (λ j. j.open.places.items ≡ []) }
+        ensures pending { IfOk result (λ j. j.pending.places.items ≡ []) }
     {
         let nodes = Vec::with_capacity(alloc, count)?;
-        let open = Kinds::new(alloc);
-        Ok(Joining { nodes, open })
+        let pending = Kinds::new(alloc);
+        Ok(Joining { nodes, pending })
     }
 
     /// Makes the node of a key of the places that have none.
     fn close(&mut self, alloc: Global, span: Span) -> Result<(), OutOfMemory>
-        ensures nodes { OnOk result (self.new.nodes.items ≡ self.old.nodes.items ++ (record { span = span; kinds = self.old.open }) ∷ []) }
-        ensures open { OnOk result (self.new.open.places.items ≡ []) }
+        ensures nodes { OnOk result (self.new.nodes.items ≡ self.old.nodes.items ++ (record { span = span; kinds = self.old.pending }) ∷ []) }
+        ensures pending { OnOk result (self.new.pending.places.items ≡ []) }
     {
-        let kinds = mem::replace(&mut self.open, Kinds::new(alloc));
+        let kinds = mem::replace(&mut self.pending, Kinds::new(alloc));
         self.nodes.push(Node { span, kinds })?;
         Ok(())
     }
@@ -132,9 +132,9 @@ impl Joining {
         first: &Keyed,
         behind: &[Keyed],
     ) -> Result<(), OutOfMemory>
-        ensures { (all : List Keyed) → IsJoining octets.now all self.old.nodes.items self.old.open.places.items (first.now ∷ behind.now) → OnOk result (IsJoining octets.now all self.new.nodes.items self.new.open.places.items behind.now) }
+        ensures { (all : List Keyed) → IsJoining octets.now all self.old.nodes.items self.old.pending.places.items (first.now ∷ behind.now) → OnOk result (IsJoining octets.now all self.new.nodes.items self.new.pending.places.items behind.now) }
     {
-        self.open.push(first.kind)?;
+        self.pending.push(first.kind)?;
         if is_last(octets, first.span, behind) {
             return self.close(alloc, first.span);
         }

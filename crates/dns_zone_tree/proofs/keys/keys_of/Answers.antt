@@ -7,15 +7,15 @@ use Rattle.dns_zone_tree.proofs.keys.keys_of.Goals as goal
 pub each-init : goal.each-init
 each-init c = keying_none c.in_ok-keys.keys.octets.items c.in_ok-keys.keys.keyed.items c.args.records.now c.in_ok-keys.ensures.octets c.in_ok-keys.ensures.keyed
 
-pub push-requires-size : goal.push-requires-size
-push-requires-size c = omega (arith, c.each.invariant.room, c.if-gt.false, c.as_slice.ensures.value)
+pub push-requires-clause-size : goal.push-requires-clause-size
+push-requires-clause-size c = omega (arith, c.each.invariant.room, ap length c.as_slice.ensures.value)
 
-pub push-requires-place : goal.push-requires-place
-push-requires-place c = omega (arith, c.requires, c.each-test.true)
+pub push-requires-clause-place : goal.push-requires-clause-place
+push-requires-clause-place c = omega (arith, c.requires, c.each-test.true)
 
-pub returns-then-gt : goal.returns-then-gt
-returns-then-gt c = λ z.
-    large_keys c.args.records.now c.each.place c.index-records-place.result c.each.keys.octets.items c.len-in-each.result c.each-test.true c.index-records-place.is c.each.invariant.keyed.size (search rules) (omega arith)
+pub returns-then-len : goal.returns-then-len
+returns-then-len c = λ z.
+    large_keys c.args.records.now c.each.place c.index-records-place.result c.each.keys.octets.items (length c.in_ok-key.key.items) c.each-test.true c.index-records-place.is c.each.invariant.keyed.size (ap length (c.in_ok-key.ensures ∙ ap canonical_key c.for_ref.ensures.value)) (omega arith)
 
 pub each-preserved : goal.each-preserved
 each-preserved c = keying_next c.args.records.now c.each.place c.index-records-place.result c.each.keys.octets.items c.each.keys.keyed.items c.as_slice.result.now c.to_int.result c.push.new.self.octets.items c.push.new.self.keyed.items

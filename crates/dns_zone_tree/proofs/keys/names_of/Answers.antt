@@ -3,8 +3,8 @@ use Rattle.std.proofs.lemmas.Result.{err_from_is_err_and}
 use Rattle.dns_zone_tree.proofs.KeyedLaws.{large_list}
 use Rattle.dns_zone_tree.proofs.keys.names_of.Goals as goal
 
-pub returns-then-gt : goal.returns-then-gt
-returns-then-gt c = λ z. large_list c.args.records.now (omega arith)
+pub returns-then-records-gt-LARGEST : goal.returns-then-records-gt-LARGEST
+returns-then-records-gt-LARGEST c = λ z. large_list c.args.records.now (omega arith)
 
 pub returns-in_err-keys : goal.returns-in_err-keys
 returns-in_err-keys c =

@@ -6,10 +6,10 @@ use Rattle.dns_zone_tree.proofs.keys.Joining.push.Goals as goal
 
 pub returns-then-is_last : goal.returns-then-is_last
 returns-then-is_last c = λ all i.
-    on_both c.close.result c.close.ensures.nodes c.close.ensures.open
-    (λ m e. joining_other c.args.octets.now all c.args.behind.now c.args.self.now.nodes.items c.args.self.now.open c.push.new.self c.args.first.now c.in_ok-push.ensures i c.close.new.self.nodes.items c.close.new.self.open.places.items m e
+    on_both c.close.result c.close.ensures.nodes c.close.ensures.pending
+    (λ m e. joining_other c.args.octets.now all c.args.behind.now c.args.self.now.nodes.items c.args.self.now.pending c.push.new.self c.args.first.now c.in_ok-push.ensures i c.close.new.self.nodes.items c.close.new.self.pending.places.items m e
     (sym c.is_last.ensures ∙ c.if-is_last.true))
 
 pub returns : goal.returns
 returns c = λ all i.
-    joining_same c.args.octets.now all c.args.behind.now c.args.self.now.nodes.items c.args.self.now.open c.push.new.self c.args.first.now c.in_ok-push.ensures i (sym c.is_last.ensures ∙ c.if-is_last.false)
+    joining_same c.args.octets.now all c.args.behind.now c.args.self.now.nodes.items c.args.self.now.pending c.push.new.self c.args.first.now c.in_ok-push.ensures i (sym c.is_last.ensures ∙ c.if-is_last.false)
