@@ -15,4 +15,4 @@ each-preserved c =
 
 pub returns : goal.returns
 returns c =
-    joining_last c.args.octets.now c.args.keyed.now c.each.left.now c.each.joining.nodes.items c.each.joining.pending.places.items (nil_from_length c.each.left.now c.in-None.ensures.cases) c.each.invariant
+    joining_last c.args.octets.now c.args.keyed.now c.each.left.now c.each.joining.nodes.items c.each.joining.pending.places.items (nil_from_length c.each.left.now c.in_default.ensures.cases) c.each.invariant
