@@ -1,5 +1,5 @@
 -- Which cause a list is refused for, and what follows where it is for none.
-use Rattle.std.proofs.Common.{◌≡◌, ℕ, zero, suc, ◌+◌, ◌-◌, ◌≤◌, ◌<◌, Bool, true, false, List, [], ◌∷◌, length, cond, get_or, nat_eq, Option, Some, None, Ok, Err, refl, ap, sym, subst, ◌∙◌, arith}
+use Rattle.std.proofs.Common.{◌≡◌, ℕ, zero, suc, ◌+◌, ◌-◌, ◌<◌, Bool, true, false, List, [], ◌∷◌, length, cond, get_or, nat_eq, Option, Some, None, Ok, Err, refl, ap, sym, subst, ◌∙◌, arith}
 use Rattle.std.specs.Prelude.{◌&&◌, ◌||◌, not, nat_lt, if◌then◌else◌, option_map}
 use Rattle.std.specs.List.{AllByRecursion, filter, position, position_from}
 use Rattle.std.proofs.lemmas.Bool.Decides.{nat_tests}
@@ -19,7 +19,7 @@ use Rattle.dns_zone_tree.specs.Nodes.{Names, kinds_under}
 use Rattle.dns_zone_tree.specs.declared.kinds.Kinds.{Kinds}
 use Rattle.dns_zone_tree.specs.Long.{is_long}
 use Rattle.dns_zone_tree.specs.Names.{KnowsNames}
-use Rattle.dns_zone_tree.specs.TreeErrors.{Makes, first_cause, has_wild_servers, is_alone, is_beside, is_crowded, miscounted, place_error, refused, size_error, soa_error, tree_error}
+use Rattle.dns_zone_tree.specs.TreeErrors.{Makes, first_cause, has_wild_servers, is_beside, is_crowded, miscounted, place_error, refused, size_error, soa_error, tree_error}
 use Rattle.dns_zone_tree.specs.declared.error.TreeError.{TreeError}
 use Rattle.dns_zone_tree.specs.declared.error.TreeError.TheVariants.{Outside, Class, Opt, Soa, SoaPlace, WildNs, Long, Large, Cname, OutOfMemory as NoMemory}
 

@@ -1,9 +1,9 @@
 -- The keys of the owners of records, sorted, and what their index says.
-use Rattle.std.proofs.Common.{◌≡◌, ℕ, suc, ◌+◌, ◌-◌, ◌≤◌, ◌<◌, Bool, true, false, List, [], ◌∷◌, ◌++◌, cond, length, map, take, drop, take_all, get_or, nat_eq, nat_le, refl, ap, sym, subst, ◌∙◌, arith, append-nil, length-append}
-use Rattle.std.specs.Prelude.{◌&&◌, ◌||◌, not, if◌then◌else◌, is_some, nat_lt, Some, None, Err}
+use Rattle.std.proofs.Common.{◌≡◌, ℕ, ◌+◌, ◌-◌, ◌≤◌, ◌<◌, Bool, true, false, List, [], ◌∷◌, ◌++◌, cond, length, map, take, drop, take_all, get_or, nat_eq, nat_le, refl, ap, sym, subst, ◌∙◌, arith, length-append}
+use Rattle.std.specs.Prelude.{◌&&◌, ◌||◌, if◌then◌else◌, nat_lt, Some, None}
 use Rattle.std.specs.Cmp.{both_ways}
 use Rattle.std.specs.Cmp.Lexicographic.{bytes_decides}
-use Rattle.std.specs.List.{AllByRecursion, filter, list_any, slice_range, sum_by}
+use Rattle.std.specs.List.{AllByRecursion, filter, list_any, slice_range}
 use Rattle.std.specs.List.Sorted.{IsPermutation, IsStableBy, ties}
 use Rattle.std.specs.Str.{bytes_eq}
 use Rattle.std.proofs.Math.Seq.{drop-append_seam, take-append_seam}
@@ -12,7 +12,7 @@ use Rattle.std.proofs.lemmas.List.{drop-append-le, length-drop, length-take-le, 
 use Rattle.std.proofs.lemmas.List.Elements.{filter-append}
 use Rattle.std.proofs.lemmas.List.Folds.{Any-from_list_any, list_any-append}
 use Rattle.std.proofs.lemmas.List.Sorted.{list_any-IsPermutation}
-use Rattle.std.proofs.lemmas.List.Sums.{sum_by-take-le, sum_by_more_le, sum_by_push}
+use Rattle.std.proofs.lemmas.List.Sums.{sum_by_more_le, sum_by_push}
 use Rattle.dns_name.specs.Canonical.{same_name, same_name_Decides}
 use Rattle.dns_name.specs.Labels.{EndsWith}
 use Rattle.dns_base.specs.Records.{data_type}
@@ -20,14 +20,14 @@ use Rattle.dns_message.specs.declared.record.Record.{Record}
 use Rattle.dns_order.specs.Keys.{BeginsWith, canonical_key}
 use Rattle.dns_order.proofs.BeginLaws.{keys_are_names, keys_begin_above}
 use Rattle.dns_route.specs.Routes.{ends_name}
-use Rattle.dns_zone.specs.Owned.{ZoneState, is_asked, is_of}
+use Rattle.dns_zone.specs.Owned.{is_asked}
 use Rattle.dns_zone.specs.Places.{places}
 use Rattle.dns_zone.proofs.PathLaws.{both_true, first_true, le_true, second_true, true_le}
 use Rattle.dns_zone.proofs.PlaceLaws.{places_more}
 use Rattle.dns_zone_tree.specs.Kinds.{is_kind, places_of}
 use Rattle.dns_zone_tree.specs.Names.{IsKeyed, KnowsNames}
-use Rattle.dns_zone_tree.specs.Nodes.{IsJoined, Names, begins, begins_keyed, is_at, is_below, is_lower, key_of, typed_at}
-use Rattle.dns_zone_tree.specs.TreeErrors.{Makes, is_large, keys_size, size_error, size_limit}
+use Rattle.dns_zone_tree.specs.Nodes.{IsJoined, Names, begins, begins_keyed, is_at, is_lower, key_of, typed_at}
+use Rattle.dns_zone_tree.specs.TreeErrors.{keys_size, size_error, size_limit}
 use Rattle.dns_zone_tree.specs.declared.error.TreeError.TheVariants.{Large}
 use Rattle.dns_zone_tree.specs.declared.kinds.TypedPlace.{TypedPlace}
 use Rattle.dns_zone_tree.specs.declared.names.Keyed.{Keyed}

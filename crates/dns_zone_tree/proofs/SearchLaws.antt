@@ -7,11 +7,11 @@ use Rattle.std.specs.List.Sorted.{IsPartitionPoint, IsPartitionedBy}
 use Rattle.std.specs.Str.{bytes_eq}
 use Rattle.std.proofs.lemmas.Bool.{true≢false, false_from_ne_true}
 use Rattle.dns_zone_tree.specs.Kinds.{places_in, places_of}
-use Rattle.dns_zone_tree.specs.Nodes.{AreOrdered, begins, begins_node, is_before, is_below, key_of, kinds_among, node_kinds, noded_at}
+use Rattle.dns_zone_tree.specs.Nodes.{AreOrdered, begins_node, is_before, is_below, key_of, kinds_among, node_kinds, noded_at}
 use Rattle.dns_zone_tree.specs.declared.kinds.Kinds.{Kinds}
 use Rattle.dns_zone_tree.specs.declared.kinds.TypedPlace.{TypedPlace}
 use Rattle.dns_zone_tree.specs.declared.names.Node.{Node}
-use Rattle.dns_zone_tree.proofs.KeyOrder.{begins_amid, begins_not_below, below_other, below_trans, same_begins}
+use Rattle.dns_zone_tree.proofs.KeyOrder.{begins_amid, begins_not_below, below_trans, same_begins}
 
 -- ---- nodes that come before a key stand first
 

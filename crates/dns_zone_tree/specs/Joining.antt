@@ -1,5 +1,5 @@
 -- How nodes are made of records that are sorted by keys, one after another.
-use Rattle.std.specs.Prelude.{ℕ, ◌≡◌, Bool, true, false, ◌||◌, List, [], ◌∷◌, ◌++◌, if◌then◌else◌}
+use Rattle.std.specs.Prelude.{ℕ, ◌≡◌, true, false, ◌||◌, List, [], ◌∷◌, ◌++◌, if◌then◌else◌}
 use Rattle.std.specs.List.{AllByRecursion, list_any}
 use Rattle.dns_zone_tree.specs.Nodes.{AreOrdered, begins_keyed, begins_node, is_at, is_before, is_lower, key_of, noded_at, typed_at}
 use Rattle.dns_zone_tree.specs.declared.kinds.TypedPlace.{TypedPlace}

@@ -1,4 +1,4 @@
-use Rattle.std.proofs.Common.{◌≡◌, ℕ, List, refl, sym, subst, ◌∙◌}
+use Rattle.std.proofs.Common.{ℕ, List, refl, sym, subst, ◌∙◌}
 use Rattle.std.specs.List.Sorted.{IsSortedBy, IsStableBy}
 use Rattle.dns_zone_tree.specs.Nodes.{AreOrdered, IsJoined, Names, is_lower}
 use Rattle.dns_zone_tree.specs.declared.names.Keyed.{Keyed}

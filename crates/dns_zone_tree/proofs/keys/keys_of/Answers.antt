@@ -1,7 +1,6 @@
-use Rattle.std.proofs.Common.{◌≡◌, length, take, take_all, ap, sym, subst, ◌∙◌, arith}
+use Rattle.std.proofs.Common.{length, ap, ◌∙◌, arith}
 use Rattle.dns_order.specs.Keys.{canonical_key}
-use Rattle.dns_zone_tree.specs.Names.{IsKeyed}
-use Rattle.dns_zone_tree.proofs.KeyedLaws.{IsKeying, keyed_all, keying_next, keying_none, large_keys}
+use Rattle.dns_zone_tree.proofs.KeyedLaws.{keyed_all, keying_next, keying_none, large_keys}
 use Rattle.dns_zone_tree.proofs.keys.keys_of.Goals as goal
 
 pub each-init : goal.each-init

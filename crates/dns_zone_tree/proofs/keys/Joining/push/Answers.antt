@@ -1,5 +1,4 @@
-use Rattle.std.proofs.Common.{sym, ap, ◌∙◌}
-use Rattle.std.specs.Prelude.{OnOk}
+use Rattle.std.proofs.Common.{sym, ◌∙◌}
 use Rattle.dns_zone_tree.proofs.JoinLaws.{joining_other, joining_same}
 use Rattle.dns_zone_tree.proofs.KeptLaws.{on_both}
 use Rattle.dns_zone_tree.proofs.keys.Joining.push.Goals as goal
