@@ -17,7 +17,7 @@ use Rattle.dns_zone.specs.Cuts.{delegates, is_cut_off}
 use Rattle.dns_zone.specs.Owned.{ZoneState, is_of, is_owned}
 use Rattle.dns_zone.specs.ZoneErrors.{has_other_class, is_misplaced, is_outside}
 use Rattle.dns_zone_tree.specs.Long.{is_long}
-use Rattle.dns_zone_tree.specs.TreeErrors.{first_cause, has_wild_servers, is_crowded, is_wild, miscounted, place_error, soa_error, tree_error}
+use Rattle.dns_zone_tree.specs.TreeErrors.{first_cause, has_wild_servers, is_crowded, is_wild, miscounted, place_error, size_error, soa_error, tree_error}
 use Rattle.dns_zone_tree.specs.Wildcards.{star}
 use Rattle.dns_denial.specs.Chains.{is_below_cut, is_record_at, must_have}
 use Rattle.dns_denial.proofs.ChainLaws.{cut_by, cut_of}
@@ -68,7 +68,7 @@ starts z h =
     let longs = option_map Long (position is_long z.records) ∷ none in
     let wilds = option_map WildNs (position has_wild_servers z.records) ∷ longs in
     let places = option_map SoaPlace (position (is_misplaced z.apex) z.records) ∷ wilds in
-    let aliases = option_map Cname (position (is_crowded z.records) z.records) ∷ none in
+    let aliases = size_error z.records ∷ option_map Cname (position (is_crowded z.records) z.records) ∷ none in
     let a = cause_none (place_error z.apex z.records) (soa_error z.apex z.records ∷ aliases) h in
     let b = cause_none (soa_error z.apex z.records) aliases a.1 in
     let o = cause_none (option_map Outside (position (is_outside z.apex) z.records)) classes a.0 in

@@ -55,6 +55,7 @@ fn write_cause<W: fmt::Write>(error: TreeError, f: &mut fmt::Formatter<W>) -> fm
             f,
             "no zone: record {place} takes more than 65,000 octets"
         ),
+        TreeError::Large => f.write_str("no zone: too many records, or owners that are too long"),
         TreeError::Cname(place) => {
             write!(f, "no zone: record {place} is a CNAME beside other records")
         }

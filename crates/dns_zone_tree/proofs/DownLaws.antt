@@ -1,26 +1,23 @@
 -- The way down from the apex, label by label, and the closest encloser of a name that doesn't exist.
-use Rattle.std.proofs.Common.{◌≡◌, ℕ, zero, suc, ◌+◌, ◌-◌, ◌≤◌, ◌<◌, Bool, true, false, List, [], ◌∷◌, ◌++◌, length, drop, nat_eq, nat_le, Option, Some, None, refl, ap, sym, subst, ◌∙◌, arith}
+use Rattle.std.proofs.Common.{◌≡◌, ℕ, zero, suc, ◌+◌, ◌-◌, ◌≤◌, ◌<◌, Bool, true, false, List, [], ◌∷◌, length, drop, nat_eq, nat_le, Option, refl, ap, sym, subst, ◌∙◌, arith}
 use Rattle.std.specs.Prelude.{◌&&◌, ◌||◌, not, map, if◌then◌else◌, is_some}
-use Rattle.std.specs.Cmp.{both_ways}
 use Rattle.std.specs.List.{AllByRecursion, filter, list_any}
-use Rattle.std.proofs.lemmas.Bool.Decides.{nat_tests}
-use Rattle.std.proofs.lemmas.List.{length-drop, nil_from_length}
 use Rattle.dns_name.specs.Canonical.{same_name, same_name_equiv}
 use Rattle.dns_message.specs.declared.record.Record.{Record}
 use Rattle.dns_order.specs.Keys.{canonical_key}
 use Rattle.dns_route.specs.Routes.{ends_name}
 use Rattle.dns_zone.specs.Kept.{IsInZone}
 use Rattle.dns_zone.specs.Owned.{ZoneState, asked_records, is_asked, is_of, is_owned}
-use Rattle.dns_zone.specs.Places.{at_places, places}
 use Rattle.dns_zone.specs.ZoneReply.{exists, negative_soa}
 use Rattle.dns_zone.proofs.KeepLaws.{any_weaker}
-use Rattle.dns_zone.proofs.PathLaws.{begins_of, both_true, first_true, le_true, same_length, second_true, true_le}
-use Rattle.dns_zone.proofs.PlaceLaws.{at_places_of, no_records, places_agree, places_count, places_none}
-use Rattle.dns_zone_tree.specs.Kinds.{Names, kind_places, kinds_under, places_in}
+use Rattle.dns_zone.proofs.PathLaws.{begins_of, first_true, same_length}
+use Rattle.dns_zone.proofs.PlaceLaws.{no_records}
+use Rattle.dns_zone_tree.specs.Kinds.{places_in}
+use Rattle.dns_zone_tree.specs.Nodes.{Names, kinds_under}
 use Rattle.dns_zone_tree.specs.declared.kinds.Kinds.{Kinds}
 use Rattle.dns_zone_tree.specs.Names.{KnowsNames}
 use Rattle.dns_zone_tree.specs.Regions.{Region, Within, BelowCut, BelowDname, asked_region, down, is_cut, region}
-use Rattle.dns_zone_tree.specs.Walks.{HasNoServers, HasServers, IsNode, ReachesNode, ReachesNone, may_cut}
+use Rattle.dns_zone_tree.specs.Walks.{IsNode, ReachesNone}
 use Rattle.dns_zone_tree.specs.Wildcards.{are_some, encloser}
 use Rattle.dns_zone_tree.proofs.NameLaws.{ends_self, ends_shorter}
 

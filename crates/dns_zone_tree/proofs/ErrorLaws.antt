@@ -1,5 +1,5 @@
 -- Which cause a list is refused for, and what follows where it is for none.
-use Rattle.std.proofs.Common.{◌≡◌, ℕ, zero, suc, ◌+◌, ◌-◌, ◌≤◌, ◌<◌, Bool, true, false, List, [], ◌∷◌, length, cond, get_or, nat_eq, Option, Some, None, Ok, Err, refl, ap, sym, subst, ◌∙◌, arith}
+use Rattle.std.proofs.Common.{◌≡◌, ℕ, zero, suc, ◌+◌, ◌-◌, ◌<◌, Bool, true, false, List, [], ◌∷◌, length, cond, get_or, nat_eq, Option, Some, None, Ok, Err, refl, ap, sym, subst, ◌∙◌, arith}
 use Rattle.std.specs.Prelude.{◌&&◌, ◌||◌, not, nat_lt, if◌then◌else◌, option_map}
 use Rattle.std.specs.List.{AllByRecursion, filter, position, position_from}
 use Rattle.std.proofs.lemmas.Bool.Decides.{nat_tests}
@@ -14,13 +14,14 @@ use Rattle.dns_zone.specs.Places.{places}
 use Rattle.dns_zone.specs.ZoneErrors.{has_other_class, is_misplaced, is_outside}
 use Rattle.dns_zone.proofs.PathLaws.{true_eq}
 use Rattle.dns_zone.proofs.PlaceLaws.{places_count}
-use Rattle.dns_zone_tree.specs.Kinds.{Names, kinds_under, places_in}
+use Rattle.dns_zone_tree.specs.Kinds.{places_in}
+use Rattle.dns_zone_tree.specs.Nodes.{Names, kinds_under}
 use Rattle.dns_zone_tree.specs.declared.kinds.Kinds.{Kinds}
 use Rattle.dns_zone_tree.specs.Long.{is_long}
 use Rattle.dns_zone_tree.specs.Names.{KnowsNames}
-use Rattle.dns_zone_tree.specs.TreeErrors.{Makes, first_cause, has_wild_servers, is_alone, is_beside, is_crowded, miscounted, place_error, refused, soa_error, tree_error}
+use Rattle.dns_zone_tree.specs.TreeErrors.{Makes, first_cause, has_wild_servers, is_beside, is_crowded, miscounted, place_error, refused, size_error, soa_error, tree_error}
 use Rattle.dns_zone_tree.specs.declared.error.TreeError.{TreeError}
-use Rattle.dns_zone_tree.specs.declared.error.TreeError.TheVariants.{Outside, Class, Opt, Soa, SoaPlace, WildNs, Long, Cname, OutOfMemory as NoMemory}
+use Rattle.dns_zone_tree.specs.declared.error.TreeError.TheVariants.{Outside, Class, Opt, Soa, SoaPlace, WildNs, Long, Large, Cname, OutOfMemory as NoMemory}
 
 -- ---- causes
 
@@ -40,6 +41,7 @@ makes_refused cause z (Soa n) h = h
 makes_refused cause z (SoaPlace i) h = h
 makes_refused cause z (WildNs i) h = h
 makes_refused cause z (Long i) h = h
+makes_refused cause z Large h = h
 makes_refused cause z (Cname i) h = h
 makes_refused cause z NoMemory h = tt
 
@@ -51,26 +53,42 @@ module _ (apex : List (List ℕ)) (rs : List Record) where
   pub refused_places : (z : ZoneState) (e : TreeError) → Err e ≡ refused (place_error apex rs) → Makes (tree_error apex rs) z (Err e)
   refused_places z e h =
       makes_refused (tree_error apex rs) z e
-      (ap (λ (o : Option TreeError). first_cause (o ∷ soa_error apex rs ∷ option_map Cname (position (is_crowded rs) rs) ∷ [])) (refused_for (place_error apex rs) e h))
+      (ap (λ (o : Option TreeError). first_cause (o ∷ soa_error apex rs ∷ size_error rs ∷ option_map Cname (position (is_crowded rs) rs) ∷ [])) (refused_for (place_error apex rs) e h))
 
   module _ (h : Ok tt ≡ refused (place_error apex rs)) where
-    behind : tree_error apex rs ≡ first_cause (soa_error apex rs ∷ option_map Cname (position (is_crowded rs) rs) ∷ [])
-    behind = ap (λ (o : Option TreeError). first_cause (o ∷ soa_error apex rs ∷ option_map Cname (position (is_crowded rs) rs) ∷ [])) (not_refused (place_error apex rs) h)
+    behind : tree_error apex rs ≡ first_cause (soa_error apex rs ∷ size_error rs ∷ option_map Cname (position (is_crowded rs) rs) ∷ [])
+    behind = ap (λ (o : Option TreeError). first_cause (o ∷ soa_error apex rs ∷ size_error rs ∷ option_map Cname (position (is_crowded rs) rs) ∷ [])) (not_refused (place_error apex rs) h)
 
     pub refused_soa : (z : ZoneState) (e : TreeError) → Err e ≡ refused (soa_error apex rs) → Makes (tree_error apex rs) z (Err e)
     refused_soa z e g =
         makes_refused (tree_error apex rs) z e
-        (behind ∙ ap (λ (o : Option TreeError). first_cause (o ∷ option_map Cname (position (is_crowded rs) rs) ∷ [])) (refused_for (soa_error apex rs) e g))
+        (behind ∙ ap (λ (o : Option TreeError). first_cause (o ∷ size_error rs ∷ option_map Cname (position (is_crowded rs) rs) ∷ [])) (refused_for (soa_error apex rs) e g))
 
     module _ (g : Ok tt ≡ refused (soa_error apex rs)) where
-      by_aliases : tree_error apex rs ≡ first_cause (option_map Cname (position (is_crowded rs) rs) ∷ [])
-      by_aliases = behind ∙ ap (λ (o : Option TreeError). first_cause (o ∷ option_map Cname (position (is_crowded rs) rs) ∷ [])) (not_refused (soa_error apex rs) g)
+      by_size : tree_error apex rs ≡ first_cause (size_error rs ∷ option_map Cname (position (is_crowded rs) rs) ∷ [])
+      by_size = behind ∙ ap (λ (o : Option TreeError). first_cause (o ∷ size_error rs ∷ option_map Cname (position (is_crowded rs) rs) ∷ [])) (not_refused (soa_error apex rs) g)
 
-      pub refused_alias : (z : ZoneState) (i : ℕ) → Some i ≡ position (is_crowded rs) rs → Makes (tree_error apex rs) z (Err (Cname i))
-      refused_alias z i e = by_aliases ∙ ap (λ (o : Option ℕ). first_cause (option_map Cname o ∷ [])) (sym e)
+      pub refused_size : (z : ZoneState) (e : TreeError) → Makes (size_error rs) z (Err e) → Makes (tree_error apex rs) z (Err e)
+      refused_size z NoMemory h2 = tt
+      refused_size z (Outside i) h2 = by_size ∙ ap (λ (o : Option TreeError). first_cause (o ∷ option_map Cname (position (is_crowded rs) rs) ∷ [])) h2
+      refused_size z (Class i) h2 = by_size ∙ ap (λ (o : Option TreeError). first_cause (o ∷ option_map Cname (position (is_crowded rs) rs) ∷ [])) h2
+      refused_size z (Opt i) h2 = by_size ∙ ap (λ (o : Option TreeError). first_cause (o ∷ option_map Cname (position (is_crowded rs) rs) ∷ [])) h2
+      refused_size z (Soa i) h2 = by_size ∙ ap (λ (o : Option TreeError). first_cause (o ∷ option_map Cname (position (is_crowded rs) rs) ∷ [])) h2
+      refused_size z (SoaPlace i) h2 = by_size ∙ ap (λ (o : Option TreeError). first_cause (o ∷ option_map Cname (position (is_crowded rs) rs) ∷ [])) h2
+      refused_size z (WildNs i) h2 = by_size ∙ ap (λ (o : Option TreeError). first_cause (o ∷ option_map Cname (position (is_crowded rs) rs) ∷ [])) h2
+      refused_size z (Long i) h2 = by_size ∙ ap (λ (o : Option TreeError). first_cause (o ∷ option_map Cname (position (is_crowded rs) rs) ∷ [])) h2
+      refused_size z Large h2 = by_size ∙ ap (λ (o : Option TreeError). first_cause (o ∷ option_map Cname (position (is_crowded rs) rs) ∷ [])) h2
+      refused_size z (Cname i) h2 = by_size ∙ ap (λ (o : Option TreeError). first_cause (o ∷ option_map Cname (position (is_crowded rs) rs) ∷ [])) h2
 
-      pub accepted : None ≡ position (is_crowded rs) rs → tree_error apex rs ≡ None
-      accepted e = by_aliases ∙ ap (λ (o : Option ℕ). first_cause (option_map Cname o ∷ [])) (sym e)
+      module _ (s : size_error rs ≡ None) where
+        by_aliases : tree_error apex rs ≡ first_cause (option_map Cname (position (is_crowded rs) rs) ∷ [])
+        by_aliases = by_size ∙ ap (λ (o : Option TreeError). first_cause (o ∷ option_map Cname (position (is_crowded rs) rs) ∷ [])) s
+
+        pub refused_alias : (z : ZoneState) (i : ℕ) → Some i ≡ position (is_crowded rs) rs → Makes (tree_error apex rs) z (Err (Cname i))
+        refused_alias z i e = by_aliases ∙ ap (λ (o : Option ℕ). first_cause (option_map Cname o ∷ [])) (sym e)
+
+        pub accepted : None ≡ position (is_crowded rs) rs → tree_error apex rs ≡ None
+        accepted e = by_aliases ∙ ap (λ (o : Option ℕ). first_cause (option_map Cname o ∷ [])) (sym e)
 
 -- ---- what follows where a list isn't refused
 
@@ -94,7 +112,7 @@ one_counted n false e g = absurd (cc)
 
 module _ (apex : List (List ℕ)) (rs : List Record) (h : tree_error apex rs ≡ None) where
   abbrev aliases : List (Option TreeError)
-  aliases = option_map Cname (position (is_crowded rs) rs) ∷ []
+  aliases = size_error rs ∷ option_map Cname (position (is_crowded rs) rs) ∷ []
 
   places_fine : place_error apex rs ≡ None
   places_fine = (cause_none (place_error apex rs) (soa_error apex rs ∷ aliases) h).0

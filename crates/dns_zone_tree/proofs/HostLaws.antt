@@ -8,7 +8,7 @@ use Rattle.std.proofs.lemmas.List.Elements.{filter_map-append}
 use Rattle.dns_message.specs.declared.record.Record.{Record}
 use Rattle.dns_zone.specs.Cuts.{is_address_at, is_address_of, is_glue}
 use Rattle.dns_zone.specs.Owned.{ZoneState, is_asked, target}
-use Rattle.dns_zone.specs.Places.{at_places, passes, places}
+use Rattle.dns_zone.specs.Places.{at_places, passes}
 use Rattle.dns_zone.proofs.GlueLaws.{address_of, passes_agree, passes_either, passes_none, set_more}
 use Rattle.dns_zone.proofs.PlaceLaws.{is_place}
 use Rattle.dns_zone_tree.specs.Kinds.{kind_places, places_in, places_of}

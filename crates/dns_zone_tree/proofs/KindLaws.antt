@@ -1,6 +1,6 @@
 -- Places with types: how they join, one more, and whether there is one of a type.
-use Rattle.std.proofs.Common.{◌≡◌, Bor, ℕ, ◌+◌, ◌<◌, Bool, true, false, List, [], ◌∷◌, ◌++◌, length, map, take, drop, get_or, cond, nat_eq, refl, ap, sym, ◌∙◌, arith, append-nil}
-use Rattle.std.specs.Prelude.{◌||◌, if◌then◌else◌, IfSome, MatchBool, MatchOption, Option, Some, None}
+use Rattle.std.proofs.Common.{◌≡◌, Bor, ℕ, ◌+◌, ◌<◌, Bool, true, false, List, [], ◌∷◌, ◌++◌, length, map, take, drop, get_or, cond, refl, ap, sym, ◌∙◌, arith}
+use Rattle.std.specs.Prelude.{◌||◌, IfSome, MatchBool, MatchOption, Option, Some, None}
 use Rattle.std.specs.List.{cons_option, count_by, filter, list_any, slice_get}
 use Rattle.std.specs.Option.{option_copied}
 use Rattle.std.proofs.lemmas.List.{drop_more, length-map, take_more}
@@ -37,14 +37,6 @@ one_place t k e = ap (λ (b : Bool). map place_of (cond b (k ∷ []) [])) e
 
 pub no_place : (t : ℕ) (k : TypedPlace) → is_kind t k ≡ false → places_of t (k ∷ []) ≡ []
 no_place t k e = ap (λ (b : Bool). map place_of (cond b (k ∷ []) [])) e
-
--- a place more
-pub places_push : (t : ℕ) (ks : List TypedPlace) (k : TypedPlace) → places_of t (ks ++ k ∷ []) ≡ (if nat_eq t 255 || nat_eq k.rtype t then places_of t ks ++ k.place ∷ [] else places_of t ks)
-places_push t ks k = places_join t ks (k ∷ []) ∙ by_test (is_kind t k)
-  where
-    by_test : (b : Bool) → places_of t ks ++ map place_of (cond b (k ∷ []) []) ≡ (if b then places_of t ks ++ k.place ∷ [] else places_of t ks)
-    by_test true = refl
-    by_test false = append-nil (places_of t ks)
 
 -- ---- whether there is one
 

@@ -1,5 +1,9 @@
 pub mod KindLaws
 pub mod KeptLaws
+pub mod KeyOrder
+pub mod SearchLaws
+pub mod JoinLaws
+pub mod KeyedLaws
 pub mod NameLaws
 pub mod DownLaws
 pub mod WayLaws

@@ -1,8 +1,7 @@
 -- One step of the way down from the apex to a name, and its end.
-use Rattle.std.proofs.Common.{◌≡◌, ℕ, zero, suc, ◌+◌, ◌-◌, ◌≤◌, ◌<◌, Bool, true, false, List, [], ◌∷◌, length, drop, get_or, nat_eq, nat_le, Option, Some, None, refl, ap, sym, subst, ◌∙◌, arith}
+use Rattle.std.proofs.Common.{◌≡◌, ℕ, ◌+◌, ◌-◌, ◌≤◌, ◌<◌, Bool, true, false, List, [], ◌∷◌, length, drop, get_or, nat_eq, nat_le, Option, Some, None, refl, ap, sym, subst, ◌∙◌, arith}
 use Rattle.std.specs.Prelude.{◌&&◌, not, map, if◌then◌else◌, is_some}
 use Rattle.std.specs.List.{AllByRecursion, filter}
-use Rattle.std.proofs.lemmas.Bool.Decides.{nat_tests}
 use Rattle.std.proofs.lemmas.List.{drop_more, length-drop, nil_from_length}
 use Rattle.dns_name.specs.Canonical.{same_name}
 use Rattle.dns_message.specs.declared.record.Record.{Record}
@@ -11,14 +10,14 @@ use Rattle.dns_zone.specs.Kept.{IsInZone}
 use Rattle.dns_zone.specs.Owned.{ZoneState, asked_records, is_asked, is_of}
 use Rattle.dns_zone.specs.Places.{at_places, places}
 use Rattle.dns_zone.specs.ZoneReply.{exists, negative_soa}
-use Rattle.dns_zone.proofs.PathLaws.{first_true, same_length, second_true, true_le}
-use Rattle.dns_zone.proofs.PlaceLaws.{at_places_of, no_records, places_agree, places_count, places_none}
+use Rattle.dns_zone.proofs.PathLaws.{same_length, second_true}
+use Rattle.dns_zone.proofs.PlaceLaws.{at_places_of, places_agree, places_count}
 use Rattle.dns_zone_tree.specs.Kinds.{kind_places, places_in}
 use Rattle.dns_zone_tree.specs.declared.kinds.Kinds.{Kinds}
 use Rattle.dns_zone_tree.specs.Regions.{Region, Within, BelowCut, BelowDname, asked_region, down, is_cut, region}
 use Rattle.dns_zone_tree.specs.Walks.{HasNoServers, HasServers, IsNode, ReachesNode, ReachesNone, may_cut}
 use Rattle.dns_zone_tree.specs.Wildcards.{are_some}
-use Rattle.dns_zone_tree.proofs.DownLaws.{apex_exists, asked_same, asked_stays, down_within, exists_same, false_by, reaches_none, region_apex, true_false}
+use Rattle.dns_zone_tree.proofs.DownLaws.{apex_exists, asked_same, asked_stays, down_within, exists_same, false_by, reaches_none, region_apex}
 
 -- ---- lists
 

@@ -5,6 +5,8 @@ pub mod Wildcards
 pub mod Regions
 pub mod Kinds
 pub mod Long
+pub mod Nodes
+pub mod Joining
 pub mod Names
 pub mod TreeErrors
 pub mod Walks

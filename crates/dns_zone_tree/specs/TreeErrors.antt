@@ -1,8 +1,9 @@
 -- Which lists of records an authority serves as a zone, and the first cause why it doesn't serve another.
 use Rattle.std.specs.Prelude.{ℕ, ⊤, ◌≡◌, Bool, false, ◌&&◌, ◌||◌, not, List, [], ◌∷◌, length, nat_eq, nat_lt, if◌then◌else◌, Option, Some, None, option_map, Result, Ok, Err}
-use Rattle.std.specs.List.{filter, position}
+use Rattle.std.specs.List.{filter, position, sum_by}
 use Rattle.std.specs.Str.{bytes_eq}
 use Rattle.dns_message.specs.declared.record.Record.{Record}
+use Rattle.dns_order.specs.Keys.{canonical_key}
 use Rattle.dns_zone.specs.Owned.{ZoneState, is_of, is_owned}
 use Rattle.dns_zone.specs.ZoneErrors.{has_other_class, is_misplaced, is_outside}
 use Rattle.dns_zone_tree.specs.Long.{is_long}
@@ -10,7 +11,7 @@ use Rattle.dns_zone_tree.specs.Wildcards.{star}
 use Rattle.dns_zone_tree.specs.declared.check.Fault.{Fault}
 use Rattle.dns_zone_tree.specs.declared.check.Fault.TheVariants.{OutsideApex, OtherClass, IsOpt, Misplaced, WildServers, TooLong}
 use Rattle.dns_zone_tree.specs.declared.error.TreeError.{TreeError}
-use Rattle.dns_zone_tree.specs.declared.error.TreeError.TheVariants.{Outside, Class, Opt, Soa, SoaPlace, WildNs, Long, Cname, OutOfMemory as NoMemory}
+use Rattle.dns_zone_tree.specs.declared.error.TreeError.TheVariants.{Outside, Class, Opt, Soa, SoaPlace, WildNs, Long, Large, Cname, OutOfMemory as NoMemory}
 
 abbrev pub first_cause : List (Option TreeError) → Option TreeError
 first_cause [] = None
@@ -65,11 +66,27 @@ soa_error apex rs = first_cause (
     ∷ option_map Long (position is_long rs)
     ∷ [])
 
+-- the octets of the keys of all owners, by which names are found
+abbrev pub keys_size : List Record → ℕ
+keys_size rs = sum_by (λ (r : Record). length (canonical_key r.owner)) rs
+
+-- the highest number of 32 bits
+abbrev pub size_limit : ℕ
+size_limit = 4294967295
+
+-- more records, or more octets of keys, than a number of 32 bits counts
+abbrev pub is_large : List Record → Bool
+is_large rs = nat_lt size_limit (length rs) || nat_lt size_limit (keys_size rs)
+
+abbrev pub size_error : List Record → Option TreeError
+size_error rs = if is_large rs then Some Large else None
+
 -- why a list isn't served, if it isn't
 abbrev pub tree_error : List (List ℕ) → List Record → Option TreeError
 tree_error apex rs = first_cause (
     place_error apex rs
     ∷ soa_error apex rs
+    ∷ size_error rs
     ∷ option_map Cname (position (is_crowded rs) rs)
     ∷ [])
 
@@ -88,4 +105,5 @@ Makes cause z (Err (Soa n)) = cause ≡ Some (Soa n)
 Makes cause z (Err (SoaPlace i)) = cause ≡ Some (SoaPlace i)
 Makes cause z (Err (WildNs i)) = cause ≡ Some (WildNs i)
 Makes cause z (Err (Long i)) = cause ≡ Some (Long i)
+Makes cause z (Err Large) = cause ≡ Some Large
 Makes cause z (Err (Cname i)) = cause ≡ Some (Cname i)

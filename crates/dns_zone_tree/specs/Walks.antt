@@ -4,7 +4,7 @@ use Rattle.dns_zone.specs.Owned.{ZoneState, is_asked}
 use Rattle.dns_zone.specs.Places.{at_places, places}
 use Rattle.dns_zone.specs.ZoneReply.{exists}
 use Rattle.dns_zone_tree.specs.Kinds.{kind_places, places_in}
-use Rattle.dns_zone_tree.specs.Regions.{Region, Within, BelowCut, BelowDname, asked_region}
+use Rattle.dns_zone_tree.specs.Regions.{Within, BelowCut, BelowDname, asked_region}
 use Rattle.dns_zone_tree.specs.Wildcards.{encloser}
 use Rattle.dns_zone_tree.specs.declared.kinds.Kinds.{Kinds}
 use Rattle.dns_zone_tree.specs.declared.walk.Walk.{Walk}

@@ -11,9 +11,9 @@ ghost use Rattle.dns_zone_tree.specs.Names.{KnowsNames};
 ghost use Rattle.dns_zone_tree.specs.TreeErrors.{Makes, has_fault, has_wild_servers, is_crowded, is_wild, place_error, refused, soa_error, tree_error};
 
 use crate::error::TreeError;
+use crate::keys::names_of;
 use crate::kinds::{ANY, Kinds};
-use crate::listing::names_of;
-use crate::names::{Names, kinds_at};
+use crate::names::Names;
 use dns_base::{Class, ComposeRecord, Record, Rtype};
 use dns_name::{Name, OutOfMemory};
 use dns_order::canonical_key;
@@ -164,7 +164,7 @@ fn is_crowded(alloc: Global, names: &Names, resource: &Record) -> Result<bool, O
         return Ok(false);
     }
     let key = canonical_key(alloc, &resource.owner.for_ref())?;
-    match kinds_at(names, key.as_slice()) {
+    match names.kinds_at(key.as_slice()) {
         Some(kinds) => Ok(has_others(kinds)),
         None => Ok(false),
     }

@@ -21,6 +21,8 @@ pub enum TreeError {
     WildNs(usize),
     /// The first record that takes more than 65,000 octets.
     Long(usize),
+    /// More than 4,294,967,295 records, or octets of the keys of their owners (`canonical_key` of dns_order).
+    Large,
     /// The first CNAME record whose owner has another record (RFC 1034, section 3.6.2), but for RRSIG and NSEC (RFC 4035,
     /// section 2.5).
     Cname(usize),

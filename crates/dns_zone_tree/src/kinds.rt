@@ -1,6 +1,6 @@
 //! Places of the records of one name, with their types.
 
-ghost use Rattle.std.specs.Prelude.{◌≡◌, ◌<◌, ◌++◌, ◌∷◌, [], ℕ, length, nat_eq, if◌then◌else◌, ◌||◌, IfOk, IfSome, OnOk, MatchBool, MatchOption};
+ghost use Rattle.std.specs.Prelude.{◌≡◌, ◌<◌, ◌++◌, ◌∷◌, [], length, IfOk, IfSome, OnOk, MatchBool, MatchOption};
 ghost use Rattle.std.specs.List.{count_by, list_any, slice_get};
 ghost use Rattle.std.specs.Option.{option_copied};
 ghost use Rattle.dns_base.specs.Records.{IsLawful};
@@ -31,6 +31,13 @@ pub fn record_at(records: &[Record], place: usize) -> Option<&Record>
 }
 
 impl TypedPlace {
+    /// The place of a record of a type.
+    pub(crate) fn new(rtype: u16, place: u32) -> TypedPlace
+        ensures { result ≡ record { rtype = rtype; place = place } }
+    {
+        TypedPlace { rtype, place }
+    }
+
     /// Whether the record has a type; type 255 asks for any.
     fn is_of(&self, rtype: u16) -> bool
         ensures { result ≡ is_kind rtype self.now }
@@ -69,7 +76,7 @@ pub struct Kinds {
 impl Kinds {
     /// No places.
     pub(crate) fn new(alloc: Global) -> Kinds
-        ensures { (t : ℕ) → kind_places t result ≡ [] }
+        ensures { result.places.items ≡ [] }
     {
         let places = SmallVec::new(alloc);
         Kinds { places }
@@ -77,17 +84,17 @@ impl Kinds {
 
     /// A copy.
     pub(crate) fn try_clone(&self, alloc: Global) -> Result<Kinds, OutOfMemory>
-        ensures { IfOk result (λ m. (t : ℕ) → kind_places t m ≡ kind_places t self.now) }
+        ensures { IfOk result (λ m. m.places.items ≡ self.now.places.items) }
     {
         let places = SmallVec::from_slice(alloc, self.as_slice())?;
         Ok(Kinds { places })
     }
 
-    /// Keeps a place of a type behind the others.
-    pub(crate) fn push(&mut self, rtype: u16, place: u32) -> Result<(), OutOfMemory>
-        ensures { OnOk result ((t : ℕ) → kind_places t self.new ≡ (if nat_eq t 255 || nat_eq rtype t then kind_places t self.old ++ place ∷ [] else kind_places t self.old)) }
+    /// Keeps a place behind the others.
+    pub(crate) fn push(&mut self, kind: TypedPlace) -> Result<(), OutOfMemory>
+        ensures { OnOk result (self.new.places.items ≡ self.old.places.items ++ kind ∷ []) }
     {
-        self.places.push(TypedPlace { rtype, place })?;
+        self.places.push(kind)?;
         Ok(())
     }
 
@@ -111,15 +118,6 @@ impl Kinds {
     {
         count_kinds(self.as_slice(), rtype)
     }
-}
-
-/// One place of a type.
-pub(crate) fn first_kinds(alloc: Global, rtype: u16, place: u32) -> Result<Kinds, OutOfMemory>
-    ensures { IfOk result (λ m. (t : ℕ) → kind_places t m ≡ (if nat_eq t 255 || nat_eq rtype t then place ∷ [] else [])) }
-{
-    let mut kinds = Kinds::new(alloc);
-    kinds.push(rtype, place)?;
-    Ok(kinds)
 }
 
 /// Whether one of some places is of a type.

@@ -1,15 +1,15 @@
-//! The zones of an authority: records that are found by a tree of keys in the canonical order, with wildcards, cuts
-//! and DNAME.
+//! The zones of an authority: records that are found by keys in the canonical order, with wildcards, cuts and DNAME.
 //!
 //! - `ZoneTree::new` takes an apex and a list of records, and refuses lists that are no zone (`TreeError`). RRSIG and
-//!   NSEC records may stand beside a CNAME record. NS records at a wildcard, and records above 65,000 octets, are
-//!   refused.
+//!   NSEC records may stand beside a CNAME record. NS records at a wildcard, records above 65,000 octets, and lists
+//!   of more than 4,294,967,295 records or octets of keys are refused.
 //! - `walk` goes from the apex to a name, label by label, and says what it ends at (`Walk`).
 //! - `wildcard` finds the wildcard below a name, and `glue` the addresses of name servers.
 //! - `Kinds` are the places of the records of one name, with their types (`TypedPlace`).
 //!
 //! `Zone` of dns_zone is a single service over such a list; a `ZoneTree` is what the reply of a name server is made
-//! from, in dns_name_server. A name that exists has a node in the tree even where it owns no record.
+//! from, in dns_name_server. Its index has the keys of all owners behind one another, and a node of some 40 octets for
+//! each name that owns records. A name above one exists without a node: its key begins the next one.
 //!
 //! ```text
 //! apex -> label -> label -> name          Node: its records | Missing: behind its closest encloser
@@ -38,6 +38,7 @@
 mod check;
 mod error;
 mod glue;
+mod keys;
 mod kinds;
 mod listing;
 mod names;

@@ -1,60 +1,26 @@
-//! What is kept of a list of records: their places by names, and the SOA record of negative answers.
+//! What is kept of a zone beside its index: the places of the records of its apex, and the SOA record of negative answers.
 
-ghost use Rattle.std.specs.Prelude.{◌≡◌, [], ◌∷◌, ◌++◌, ℕ, List, length, map, IfOk, OnOk};
+ghost use Rattle.std.specs.Prelude.{◌≡◌, [], ◌∷◌, ℕ, length, map, IfOk};
 ghost use Rattle.std.specs.List.{filter};
-ghost use Rattle.dns_message.specs.declared.record.Record.{Record};
 ghost use Rattle.dns_order.specs.Keys.{canonical_key};
 ghost use Rattle.dns_zone.specs.Owned.{is_of};
 ghost use Rattle.dns_zone.specs.ZoneReply.{negative_soa, negative_ttl};
-ghost use Rattle.dns_zone_tree.specs.Kinds.{kind_places, places_under};
-ghost use Rattle.dns_zone_tree.specs.Names.{KnowsNames};
+ghost use Rattle.dns_zone_tree.specs.Kinds.{kind_places};
+ghost use Rattle.dns_zone_tree.specs.Nodes.{places_under};
 
 use crate::kinds::Kinds;
-use crate::names::{Names, kinds_at, mark_above, put};
+use crate::names::Names;
 use dns_base::{Record, RecordData, Rtype, Ttl};
 use dns_name::{Name, OutOfMemory};
 use dns_order::canonical_key;
 use std::alloc::Global;
-use std::collections::BTreeMap;
-
-/// A place as it is kept: of a list of more than 4,294,967,296 records none is, as if there were no memory.
-fn kept_place(place: usize) -> Result<u32, OutOfMemory>
-    ensures { IfOk result (λ p. p ≡ place) }
-{
-    match u32::try_from(place) {
-        Ok(place) => Ok(place),
-        Err(_) => Err(OutOfMemory),
-    }
-}
-
-/// Keeps the place of a record, and a node for each name above its owner.
-fn add(names: &mut Names, alloc: Global, resource: &Record, place: usize) -> Result<(), OutOfMemory>
-    ensures { (rs : List Record) → KnowsNames names.old rs → place ≡ length rs → OnOk result (KnowsNames names.new (rs ++ resource.now ∷ [])) }
-{
-    let owner = resource.owner.for_ref();
-    let kept = kept_place(place)?;
-    let key = canonical_key(alloc, &owner)?;
-    put(names, alloc, key, resource.rdata.rtype().to_int(), kept)?;
-    mark_above(names, alloc, &owner)
-}
-
-/// The places of the records of a list.
-pub(crate) fn names_of(alloc: Global, records: &[Record]) -> Result<Names, OutOfMemory>
-    ensures { IfOk result (λ n. KnowsNames n records.now) }
-{
-    let mut names = BTreeMap::new(alloc);
-    'each: for (place, record) in records.iter().enumerate() {
-        add(&mut names, alloc, record, place)?;
-    }
-    Ok(names)
-}
 
 /// The places of the records of a name.
 pub(crate) fn kinds_of(alloc: Global, names: &Names, name: &Name) -> Result<Kinds, OutOfMemory>
     ensures { IfOk result (λ m. (t : ℕ) → kind_places t m ≡ places_under names.now (canonical_key name.now) t) }
 {
     let key = canonical_key(alloc, &name.for_ref())?;
-    match kinds_at(names, key.as_slice()) {
+    match names.kinds_at(key.as_slice()) {
         Some(kinds) => kinds.try_clone(alloc),
         None => Ok(Kinds::new(alloc)),
     }

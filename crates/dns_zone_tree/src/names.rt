@@ -1,80 +1,109 @@
-//! The index of a zone: a node for each name that exists.
+//! The index of a zone: the names that own records, in the canonical order.
 
-ghost use Rattle.std.specs.Prelude.{◌≡◌, OnOk, IsSome};
+ghost use Rattle.std.specs.Prelude.{◌≡◌, true, false};
+ghost use Rattle.std.specs.List.{slice_get};
+ghost use Rattle.std.specs.List.Sorted.{IsPartitionPoint};
 ghost use Rattle.std.specs.Option.{option_copied};
-ghost use Rattle.dns_zone_tree.specs.Kinds.{Marks, Puts, kinds_under};
-ghost use Rattle.dns_zone_tree.specs.Names.{MarksAbove};
+ghost use Rattle.dns_zone_tree.specs.Nodes.{AreOrdered, is_before, key_of, kinds_by, kinds_under};
 
-use crate::kinds::{Kinds, first_kinds};
-use dns_name::{NameRef, OutOfMemory};
-use dns_order::canonical_key;
-use std::alloc::Global;
-use std::collections::BTreeMap;
+use crate::kinds::{Kinds, TypedPlace};
+use std::marker::Model;
 
-/// Places of records by the key of the owner and by the type.
-pub(crate) type Names = BTreeMap<Vec<u8>, Kinds>;
-
-/// Keeps something under a key, perhaps no places.
-pub(crate) fn mark(names: &mut Names, alloc: Global, key: Vec<u8>) -> Result<(), OutOfMemory>
-    ensures { OnOk result (Marks names.old key.items names.new) }
-{
-    if names.contains_key(key.as_slice()) {
-        return Ok(());
-    }
-    names.insert(key, Kinds::new(alloc))?;
-    Ok(())
+/// Where a key lies among the octets of all keys.
+#[derive(Clone, Copy)]
+pub(crate) struct Span {
+    pub(crate) start: u32,
+    pub(crate) end: u32,
 }
 
-/// What is kept under a key.
-pub(crate) fn kinds_at<'a>(names: &'a Names, key: &[u8]) -> Option<&'a Kinds>
-    ensures { option_copied result ≡ kinds_under names.now key.now }
-{
-    names.get(key)
+/// Where the key of a record's owner lies, and the record's type and place.
+#[derive(Clone, Copy)]
+pub(crate) struct Keyed {
+    pub(crate) span: Span,
+    pub(crate) kind: TypedPlace,
 }
 
-/// Keeps a place of a type under a key that is there.
-fn put_behind(names: &mut Names, key: &[u8], rtype: u16, place: u32) -> Result<(), OutOfMemory>
-    requires { IsSome (kinds_under names.old key.now) }
-    ensures { OnOk result (Puts names.old key.now rtype place names.new) }
+/// Where the key of a name that owns records lies, and their types and places.
+#[derive(Drop)]
+pub(crate) struct Node {
+    pub(crate) span: Span,
+    pub(crate) kinds: Kinds,
+}
+
+/// The keys of the names that own records, behind one another, and the nodes of these names in the order of the keys.
+#[derive(Drop)]
+pub(crate) struct Names {
+    pub(crate) octets: Vec<u8>,
+    pub(crate) nodes: Vec<Node>,
+    pub(crate) none: Kinds,
+}
+
+impl Model for Names {
+    ghost use Rattle.dns_zone_tree.specs.Nodes.{AreOrdered, Names as Index};
+
+    ghost Value = { Index };
+
+    ghost view = { λ n. record { octets = n.octets.items; nodes = n.nodes.items; none = n.none } };
+
+    ghost invariant = { λ n. AreOrdered n.octets.items n.nodes.items };
+}
+
+/// The octets of a key; none where it doesn't lie among the octets.
+pub(crate) fn key_of(octets: &[u8], span: Span) -> &[u8]
+    ensures { result.now ≡ key_of octets.now span }
 {
-    match names.get_mut(key) {
-        Some(kinds) => kinds.push(rtype, place),
-        None => unreachable!(),
+    match octets.get(span.start as usize..span.end as usize) {
+        Some(key) => key,
+        None => &[],
     }
 }
 
-/// Keeps a place of a type under a key.
-pub(crate) fn put(
-    names: &mut Names,
-    alloc: Global,
-    key: Vec<u8>,
-    rtype: u16,
-    place: u32,
-) -> Result<(), OutOfMemory>
-    ensures { OnOk result (Puts names.old key.items rtype place names.new) }
+/// Whether a node comes before a key.
+fn is_before(octets: &[u8], node: &Node, key: &[u8]) -> bool
+    ensures { result ≡ is_before octets.now key.now node.now }
 {
-    let octets = key.as_slice();
-    if names.contains_key(octets) {
-        return put_behind(names, octets, rtype, place);
-    }
-    let kinds = first_kinds(alloc, rtype, place)?;
-    names.insert(key, kinds)?;
-    Ok(())
+    key_of(octets, node.span).cmp(key).is_lt()
 }
 
-/// Keeps something under the keys of the names above a name.
-pub(crate) fn mark_above(
-    names: &mut Names,
-    alloc: Global,
-    name: &NameRef<'_>,
-) -> Result<(), OutOfMemory>
-    ensures { OnOk result (MarksAbove names.old name.now names.new) }
+/// How many nodes come before a key.
+fn count_before(octets: &[u8], nodes: &[Node], key: &[u8]) -> usize
+    requires { AreOrdered octets.now nodes.now }
+    ensures { IsPartitionPoint (λ n. is_before octets.now key.now n ≡ true) (λ n. is_before octets.now key.now n ≡ false) nodes.now result }
 {
-    let mut left = name.parent();
-    'each: while let Some(above) = left {
-        let key = canonical_key(alloc, &above)?;
-        mark(names, alloc, key)?;
-        left = above.parent();
+    nodes.partition_point(|node| is_before(octets, node, key))
+}
+
+/// The node at a place, where there is one.
+fn node_at(nodes: &[Node], place: usize) -> Option<&Node>
+    ensures { option_copied result ≡ slice_get nodes.now place }
+{
+    nodes.get(place)
+}
+
+/// What is kept of a key: what is there where a node's key is it, and nothing where that only begins with it, as the key of a name
+/// below does.
+fn kinds_by<'a>(own: &[u8], key: &[u8], kinds: &'a Kinds, none: &'a Kinds) -> Option<&'a Kinds>
+    ensures { option_copied result ≡ kinds_by own.now key.now kinds.now none.now }
+{
+    if own == key {
+        return Some(kinds);
     }
-    Ok(())
+    if own.starts_with(key) {
+        return Some(none);
+    }
+    None
+}
+
+impl Names {
+    /// What is kept of the name of a key, where it exists. The first node that doesn't come before the key says it.
+    pub(crate) fn kinds_at(&self, key: &[u8]) -> Option<&Kinds>
+        ensures { option_copied result ≡ kinds_under self.now key.now }
+    {
+        let octets = self.octets.as_slice();
+        let nodes = self.nodes.as_slice();
+        match node_at(nodes, count_before(octets, nodes, key)) {
+            Some(node) => kinds_by(key_of(octets, node.span), key, &node.kinds, &self.none),
+            None => None,
+        }
+    }
 }

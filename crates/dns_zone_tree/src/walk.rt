@@ -8,7 +8,6 @@ ghost use Rattle.dns_zone_tree.specs.Walks.{EndsAt, HasNoServers, HasServers, Is
 ghost use Rattle.dns_zone_tree.specs.Wildcards.{star};
 
 use crate::kinds::Kinds;
-use crate::names::kinds_at;
 use crate::zone_tree::ZoneTree;
 use dns_base::Rtype;
 use dns_name::{NameRef, OutOfMemory};
@@ -59,7 +58,7 @@ impl ZoneTree {
         ensures { IfOk result (λ o. IsNode self.now name.now (option_copied o)) }
     {
         let key = canonical_key(alloc, name)?;
-        Ok(kinds_at(&self.names, key.as_slice()))
+        Ok(self.names.kinds_at(key.as_slice()))
     }
 
     /// The places of the records of the wildcard below a name, where it exists.
@@ -71,7 +70,7 @@ impl ZoneTree {
         ensures { IfOk result (λ o. IsNode self.now (star ∷ above.now) (option_copied o)) }
     {
         let key = star_key(alloc, above)?;
-        Ok(kinds_at(&self.names, key.as_slice()))
+        Ok(self.names.kinds_at(key.as_slice()))
     }
 
     /// How many labels a name has before the apex.

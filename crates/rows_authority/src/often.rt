@@ -1,4 +1,5 @@
-//! An authority that is asked often, whose zone has the names `x00000.example.` and so on, which `bench/authority` times.
+//! An authority that is asked often, whose zone has the names `x00000.example.` and so on, behind 100,000 of one letter those of
+//! the letter before it, which `bench/authority` times.
 
 ghost use Rattle.std.specs.Prelude.{◌≤◌, ◌+◌, length};
 ghost use Rattle.dns_zone.specs.Owned.{AreLawful};
@@ -16,7 +17,10 @@ use rows_table::{Calls, Row, RowError};
 use std::alloc::Global;
 
 /// The most names that there are.
-const MOST: u64 = 100_000;
+const MOST: u64 = 1_000_000;
+
+/// How many names begin with one letter.
+const OF_A_LETTER: u64 = 100_000;
 
 /// How far the name that is asked for is from the one that was asked for before: names far apart in turn.
 const STRIDE: u64 = 61_803;
@@ -86,15 +90,16 @@ fn digit(number: u64) -> u8 {
     b'0' + (number % 10) as u8
 }
 
-/// Writes the last five digits of a number.
-fn write_digits(octets: &mut [u8], at: usize, number: u64)
-    requires { at + 5 ≤ length octets.old }
+/// Writes a number's name: a letter and its last five digits.
+fn write_name(octets: &mut [u8], at: usize, number: u64)
+    requires { at + 6 ≤ length octets.old }
 {
-    octets[at] = digit(number / 10_000);
-    octets[at + 1] = digit(number / 1_000);
-    octets[at + 2] = digit(number / 100);
-    octets[at + 3] = digit(number / 10);
-    octets[at + 4] = digit(number);
+    octets[at] = b'x' - (number / OF_A_LETTER % 10) as u8;
+    octets[at + 1] = digit(number / 10_000);
+    octets[at + 2] = digit(number / 1_000);
+    octets[at + 3] = digit(number / 100);
+    octets[at + 4] = digit(number / 10);
+    octets[at + 5] = digit(number);
 }
 
 /// The records of so many names, behind the SOA record.
@@ -105,7 +110,7 @@ fn records_of(row: &mut Row<'_>, names: u64) -> Vec<Record>
     push_octets(row, &mut records, &SOA);
     let mut octets = ADDRESS;
     'each: for number in 0..names {
-        write_digits(&mut octets, 2, number);
+        write_name(&mut octets, 1, number);
         push_octets(row, &mut records, &octets);
     }
     records
@@ -139,7 +144,7 @@ fn asked(row: &mut Row<'_>, authority: &Authority, names: u64, times: u64) {
     let mut sum = 0u64;
     for _i in 0..times {
         number = number.wrapping_add(STRIDE).checked_rem(names).unwrap_or(0);
-        write_digits(&mut octets, 14, number);
+        write_name(&mut octets, 13, number);
         match size(row.alloc(), authority, &octets) {
             Some(size) => sum = sum.wrapping_add(size),
             None => return row.fail(RowError::OutOfMemory),

@@ -1,6 +1,5 @@
-use Rattle.std.proofs.Common.{◌≡◌, ap, length, map, sym, subst, ◌∙◌}
+use Rattle.std.proofs.Common.{ap, length, map, sym, ◌∙◌}
 use Rattle.std.specs.List.{filter}
-use Rattle.dns_order.specs.Keys.{canonical_key}
 use Rattle.dns_zone.specs.Owned.{is_of}
 use Rattle.dns_zone.specs.ZoneReply.{negative_soa}
 use Rattle.dns_zone_tree.proofs.zone_tree.made.Goals as goal

@@ -1,8 +1,7 @@
-use Rattle.std.proofs.Common.{◌≡◌, List, [], ◌∷◌, sym, ap, ◌∙◌}
+use Rattle.std.proofs.Common.{◌≡◌, [], ◌∷◌, sym, ap, ◌∙◌}
 use Rattle.std.specs.BTreeSet.{contains}
 use Rattle.std.specs.List.{slice_get}
 use Rattle.std.specs.Ordering.{nat_cmp}
-use Rattle.dns_message.specs.declared.record.Record.{Record}
 use Rattle.dns_zone.specs.Owned.{ZoneState}
 use Rattle.dns_zone.specs.Places.{at_places}
 use Rattle.dns_zone_tree.specs.Kinds.{places_of}

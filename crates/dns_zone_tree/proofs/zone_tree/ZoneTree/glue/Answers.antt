@@ -1,4 +1,4 @@
-use Rattle.std.proofs.Common.{◌≡◌, List, ap, subst, ◌∙◌}
+use Rattle.std.proofs.Common.{◌≡◌, List, ap, ◌∙◌}
 use Rattle.dns_zone.specs.Cuts.{glue}
 use Rattle.dns_zone.specs.Places.{at_places}
 use Rattle.dns_zone.proofs.GlueLaws.{glue_of}

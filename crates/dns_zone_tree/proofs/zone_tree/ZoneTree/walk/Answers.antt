@@ -1,14 +1,13 @@
-use Rattle.std.proofs.Common.{◌≡◌, ◌<◌, ◌-◌, false, nat_eq, ℕ, List, [], ◌∷◌, drop, length, map, ap, sym, subst, ◌∙◌, arith}
+use Rattle.std.proofs.Common.{◌≡◌, ◌<◌, ◌-◌, false, nat_eq, ℕ, List, [], ◌∷◌, length, map, ap, subst, ◌∙◌, arith}
 use Rattle.std.specs.List.{AllByRecursion, filter}
 use Rattle.std.specs.Option.{option_copied}
-use Rattle.std.proofs.lemmas.Grind.{common_steps}
 use Rattle.std.proofs.lemmas.Bool.Decides.{nat_tests}
 use Rattle.dns_zone.specs.Kept.{IsInZone}
 use Rattle.dns_zone.specs.Owned.{ZoneState, is_asked, is_of}
 use Rattle.dns_zone.specs.Places.{places}
 use Rattle.dns_zone.specs.ZoneReply.{negative_soa}
 use Rattle.dns_zone_tree.specs.Kinds.{kind_places}
-use Rattle.dns_zone_tree.specs.Walks.{HasNoServers, HasServers, IsNode}
+use Rattle.dns_zone_tree.specs.Walks.{IsNode}
 use Rattle.dns_zone_tree.proofs.KindLaws.{at_false, at_true}
 use Rattle.dns_zone_tree.proofs.WayLaws.{onward, way_apex, way_cut, way_dname, way_first, way_missing, way_next, way_node}
 use Rattle.dns_zone_tree.proofs.zone_tree.ZoneTree.walk.Goals as goal
