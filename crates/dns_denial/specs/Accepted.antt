@@ -33,7 +33,8 @@ servers_owner (r ∷ rs) = r.owner
 -- a referral has the DS records, or there are none; a DNAME record denies nothing
 abbrev pub is_accepted_by : ZoneState → List NsecState → ℕ → List (List ℕ) → Region → Bool
 is_accepted_by z ns t name Within = is_accepted_within z ns t name
-is_accepted_by z ns t name (BelowCut servers) = are_some (asked_records z (servers_owner servers) 43) || proves_insecure ns (servers_owner servers)
+is_accepted_by z ns t name (BelowCut servers) = are_some (asked_records z (servers_owner servers) 43)
+    || proves_insecure ns (servers_owner servers)
 is_accepted_by z ns t name (BelowDname ds) = true
 
 abbrev pub is_accepted : ZoneState → List NsecState → ℕ → List (List ℕ) → Bool
@@ -55,5 +56,7 @@ HasWildcards ns chosen n name = (m : NsecState) × IsLast ns (shown_wildcard n n
 -- Each absence is proved: by the last NSEC that is not behind that name, and where it doesn't exist the last that is not behind the
 -- wildcard which that one shows. They may be among others, so that the NSECs of a chain of aliases are those of its names.
 abbrev pub EachAbsenceIsProved : Type 0
-EachAbsenceIsProved = (z : ZoneState) (ns chosen : List NsecState) (t : ℕ) (name : List (List ℕ)) (n : NsecState) → IsWhole z ns → ends_name name z.apex ≡ true → CanBeDenied z name t →
-    IsLast ns (sought z t name) n → Contains chosen n → (exists z (sought z t name) ≡ false → HasWildcards ns chosen n (sought z t name)) → is_accepted z chosen t name ≡ true
+EachAbsenceIsProved = (z : ZoneState) (ns chosen : List NsecState) (t : ℕ) (name : List (List ℕ)) (n : NsecState) → IsWhole z ns
+    → ends_name name z.apex ≡ true → CanBeDenied z name t
+    → IsLast ns (sought z t name) n → Contains chosen n
+    → (exists z (sought z t name) ≡ false → HasWildcards ns chosen n (sought z t name)) → is_accepted z chosen t name ≡ true

@@ -29,7 +29,8 @@ is_accepted_within3 z h ns t name =
 
 abbrev pub is_accepted_by3 : ZoneState → Hashing → List Nsec3State → ℕ → List (List ℕ) → Region → Bool
 is_accepted_by3 z h ns t name Within = is_accepted_within3 z h ns t name
-is_accepted_by3 z h ns t name (BelowCut servers) = are_some (asked_records z (servers_owner servers) 43) || proves_insecure3 h ns (servers_owner servers)
+is_accepted_by3 z h ns t name (BelowCut servers) = are_some (asked_records z (servers_owner servers) 43)
+    || proves_insecure3 h ns (servers_owner servers)
 is_accepted_by3 z h ns t name (BelowDname ds) = true
 
 abbrev pub is_accepted3 : ZoneState → Hashing → List Nsec3State → ℕ → List (List ℕ) → Bool
@@ -37,7 +38,8 @@ is_accepted3 z h ns t name = is_accepted_by3 z h ns t name (asked_region z t nam
 
 -- the names whose NSEC3s are chosen: a name that has one; else its closest provable encloser, the next closer name and the wildcard
 abbrev pub hashed_names : Hashing → List Nsec3State → List (List ℕ) → List (List (List ℕ))
-hashed_names h ns name = if is_matched h ns name then name ∷ [] else provable h ns name ∷ closer h ns name ∷ (star ∷ provable h ns name) ∷ []
+hashed_names h ns name = if is_matched h ns name then name ∷ []
+    else provable h ns name ∷ closer h ns name ∷ (star ∷ provable h ns name) ∷ []
 
 -- NSEC3s of a chain, among them those of these names
 pub record AreChosen (h : Hashing) (ns chosen : List Nsec3State) (name : List (List ℕ)) : Type 0 where
@@ -49,7 +51,8 @@ pub record AreChosen (h : Hashing) (ns chosen : List Nsec3State) (name : List (L
 -- collide are none of this: then a server must fail (section 7.2.9).
 pub record IsProvable (z : ZoneState) (h : Hashing) (ns : List Nsec3State) (t : ℕ) (name : List (List ℕ)) : Type 0 where
   pub held : exists z name ≡ true → nat_eq t 43 ≡ false → is_matched h ns name ≡ true
-  pub closest : exists z name ≡ false → exists z (wildcard z name) ≡ true → (provable h ns name ≡ encloser z name) × (is_matched h ns (wildcard z name) ≡ true)
+  pub closest : exists z name ≡ false → exists z (wildcard z name) ≡ true → (provable h ns name ≡ encloser z name)
+      × (is_matched h ns (wildcard z name) ≡ true)
   pub none : exists z name ≡ false → exists z (wildcard z name) ≡ false → exists z (star ∷ provable h ns name) ≡ false
 
 pub record HasOwnHashes (z : ZoneState) (h : Hashing) (ns : List Nsec3State) (name : List (List ℕ)) : Type 0 where
@@ -57,8 +60,9 @@ pub record HasOwnHashes (z : ZoneState) (h : Hashing) (ns : List Nsec3State) (na
   pub wild : IsApart z h ns (star ∷ provable h ns name)
 
 abbrev pub EachAbsenceIsProved3 : Type 0
-EachAbsenceIsProved3 = (z : ZoneState) (h : Hashing) (ns chosen : List Nsec3State) (t : ℕ) (name : List (List ℕ)) → IsWhole3 z h ns → ends_name name z.apex ≡ true → CanBeDenied z name t →
-    IsProvable z h ns t name → HasOwnHashes z h ns name → AreChosen h ns chosen (sought z t name) → is_accepted3 z h chosen t name ≡ true
+EachAbsenceIsProved3 = (z : ZoneState) (h : Hashing) (ns chosen : List Nsec3State) (t : ℕ) (name : List (List ℕ)) → IsWhole3 z h ns
+    → ends_name name z.apex ≡ true → CanBeDenied z name t
+    → IsProvable z h ns t name → HasOwnHashes z h ns name → AreChosen h ns chosen (sought z t name) → is_accepted3 z h chosen t name ≡ true
 
 -- ---- what the search gives
 
@@ -72,7 +76,8 @@ abbrev pub HasNoZone3 : Hashing → List Nsec3State → List (List ℕ) → Type
 HasNoZone3 h ns name = (z : ZoneState) → IsWhole3 z h ns → ends_name name z.apex ≡ true → ⊥
 
 -- the closest provable encloser of a name and its NSEC3, and that of the next closer name; the wildcard below it is a name
-pub record AreClosest (h : Hashing) (ns : List Nsec3State) (name : List (List ℕ)) (encloser next : Nsec3State) (above : List (List ℕ)) : Type 0 where
+pub record AreClosest (h : Hashing) (ns : List Nsec3State) (name : List (List ℕ)) (encloser next : Nsec3State)
+    (above : List (List ℕ)) : Type 0 where
   pub near : IsNear h ns (provable h ns name) encloser
   pub next_near : IsNear h ns (closer h ns name) next
   pub is : above ≡ provable h ns name

@@ -68,7 +68,8 @@ owner_behind apex ns k d = if nat_lt (k + 1) (length ns) then (slice_index_or ns
 
 -- each points to the next, the last to the apex
 abbrev pub AreLinked : List (List ℕ) → List NsecState → ℕ → Type 0
-AreLinked apex ns high = (k : ℕ) (d : NsecState) → k < high → k < length ns → same_name (slice_index_or ns k d).next (owner_behind apex ns k d) ≡ true
+AreLinked apex ns high = (k : ℕ) (d : NsecState) → k < high → k < length ns
+    → same_name (slice_index_or ns k d).next (owner_behind apex ns k d) ≡ true
 
 -- one that doesn't
 pub record IsUnlinked (apex : List (List ℕ)) (ns : List NsecState) (k : ℕ) : Type 0 where
@@ -90,4 +91,5 @@ Breaks z ns NoMemory = Unit {0}
 
 -- a chain that is whole breaks nowhere
 abbrev pub WholeChainsBreakNowhere : Type 0
-WholeChainsBreakNowhere = (z : ZoneState) (ns : List NsecState) (e : ChainError) → AreSorted ns → IsWhole z ns → Breaks z ns e → e ≡ NoMemory
+WholeChainsBreakNowhere = (z : ZoneState) (ns : List NsecState) (e : ChainError) → AreSorted ns → IsWhole z ns → Breaks z ns e
+    → e ≡ NoMemory

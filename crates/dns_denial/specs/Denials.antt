@@ -43,20 +43,25 @@ pub record CanBeDenied (z : ZoneState) (name : List (List ℕ)) (t : ℕ) : Type
 
 -- of a name that doesn't exist, nor does the wildcard that could stand for it (section 3.1.3.2)
 abbrev pub ProvesNameError : List NsecState → List (List ℕ) → NsecState → NsecState → Type 0
-ProvesNameError ns name n m = (z : ZoneState) → IsWhole z ns → IsAnswered z name → exists z name ≡ false → exists z (wildcard z name) ≡ false → proves_name_error z.apex (n ∷ m ∷ []) name ≡ true
+ProvesNameError ns name n m = (z : ZoneState) → IsWhole z ns → IsAnswered z name → exists z name ≡ false
+    → exists z (wildcard z name) ≡ false → proves_name_error z.apex (n ∷ m ∷ []) name ≡ true
 
 -- of a name that exists and has no records of a type (section 3.1.3.1)
 abbrev pub ProvesNoData : List NsecState → List (List ℕ) → NsecState → Type 0
-ProvesNoData ns name n = (z : ZoneState) (t : ℕ) → IsWhole z ns → IsAnswered z name → exists z name ≡ true → HasNone z name t → CanBeDenied z name t → proves_no_data z.apex (n ∷ []) name t ≡ true
+ProvesNoData ns name n = (z : ZoneState) (t : ℕ) → IsWhole z ns → IsAnswered z name → exists z name ≡ true → HasNone z name t
+    → CanBeDenied z name t → proves_no_data z.apex (n ∷ []) name t ≡ true
 
 -- of a name that doesn't exist, where a wildcard stands for it that has no records of a type (section 3.1.3.4)
 abbrev pub ProvesWildcardNoData : List NsecState → List (List ℕ) → NsecState → NsecState → Type 0
-ProvesWildcardNoData ns name n m = (z : ZoneState) (t : ℕ) → IsWhole z ns → ends_name name z.apex ≡ true → IsAnswered z name → exists z name ≡ false →
-    exists z (wildcard z name) ≡ true → HasNone z (wildcard z name) t → IsTold t → proves_wildcard_no_data z.apex (n ∷ m ∷ []) name t ≡ true
+ProvesWildcardNoData ns name n m = (z : ZoneState) (t : ℕ) → IsWhole z ns → ends_name name z.apex ≡ true → IsAnswered z name
+    → exists z name ≡ false
+    → exists z (wildcard z name) ≡ true → HasNone z (wildcard z name) t → IsTold t
+    → proves_wildcard_no_data z.apex (n ∷ m ∷ []) name t ≡ true
 
 -- of a name that doesn't exist, where a wildcard's records are given for it (section 3.1.3.3)
 abbrev pub ProvesExpansion : List NsecState → List (List ℕ) → NsecState → Type 0
-ProvesExpansion ns name n = (z : ZoneState) → IsWhole z ns → IsAnswered z name → exists z name ≡ false → proves_expansion z.apex (n ∷ []) name (wildcard z name) ≡ true
+ProvesExpansion ns name n = (z : ZoneState) → IsWhole z ns → IsAnswered z name → exists z name ≡ false
+    → proves_expansion z.apex (n ∷ []) name (wildcard z name) ≡ true
 
 -- a delegation point below no other one, without DS
 pub record IsUnsigned (z : ZoneState) (cut : List (List ℕ)) : Type 0 where
@@ -71,19 +76,22 @@ ProvesInsecure ns cut n = (z : ZoneState) → IsWhole z ns → IsUnsigned z cut 
 
 -- where its DS is asked for (section 3.1.4.1)
 abbrev pub ProvesNoDs : List NsecState → List (List ℕ) → NsecState → Type 0
-ProvesNoDs ns cut n = (z : ZoneState) → IsWhole z ns → IsUnsigned z cut → list_any (is_record_at cut 5) z.records ≡ false → proves_no_data z.apex (n ∷ []) cut 43 ≡ true
+ProvesNoDs ns cut n = (z : ZoneState) → IsWhole z ns → IsUnsigned z cut → list_any (is_record_at cut 5) z.records ≡ false
+    → proves_no_data z.apex (n ∷ []) cut 43 ≡ true
 
 -- ---- laws
 
 -- what is proved by the last NSEC that is not behind a name, and the last one that is not behind the wildcard which that one shows
 abbrev pub NameErrorsAreProved : Type 0
-NameErrorsAreProved = (ns : List NsecState) (name : List (List ℕ)) (n m : NsecState) → IsLast ns name n → IsLast ns (shown_wildcard n name) m → ProvesNameError ns name n m
+NameErrorsAreProved = (ns : List NsecState) (name : List (List ℕ)) (n m : NsecState) → IsLast ns name n
+    → IsLast ns (shown_wildcard n name) m → ProvesNameError ns name n m
 
 abbrev pub NoDataIsProved : Type 0
 NoDataIsProved = (ns : List NsecState) (name : List (List ℕ)) (n : NsecState) → IsLast ns name n → ProvesNoData ns name n
 
 abbrev pub WildcardNoDataIsProved : Type 0
-WildcardNoDataIsProved = (ns : List NsecState) (name : List (List ℕ)) (n m : NsecState) → IsLast ns name n → IsLast ns (shown_wildcard n name) m → ProvesWildcardNoData ns name n m
+WildcardNoDataIsProved = (ns : List NsecState) (name : List (List ℕ)) (n m : NsecState) → IsLast ns name n
+    → IsLast ns (shown_wildcard n name) m → ProvesWildcardNoData ns name n m
 
 abbrev pub ExpansionsAreProved : Type 0
 ExpansionsAreProved = (ns : List NsecState) (name : List (List ℕ)) (n : NsecState) → IsLast ns name n → ProvesExpansion ns name n

@@ -12,7 +12,8 @@ is_up_to3 o n = not (is_lower o n.hash)
 abbrev pub AreSorted3 : List Nsec3State → Type 0
 AreSorted3 ns = AllPairs (λ (m : Nsec3State) (n : Nsec3State). is_lower m.hash n.hash ≡ true) ns
 
--- more than 100 additional iterations, or a salt of more than 32 octets (RFC 9276, section 3.2)
+-- more than 100 additional iterations, above which resolvers take a zone for insecure or answer SERVFAIL (RFC 9276, section 3.2 and
+-- appendix A); or a salt of more than 32 octets, which is our own limit: RFC 9276, section 3.1, advises none at all
 abbrev pub hashing_error : List ℕ → ℕ → Option HashingError
 hashing_error salt iterations = if nat_lt 100 iterations then Some Iterations else (if nat_lt 32 (length salt) then Some Salt else None)
 

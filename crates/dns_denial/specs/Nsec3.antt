@@ -63,7 +63,8 @@ is_delegation3 n = has n 2 && not (has n 6)
 
 -- a type is not among those of the name, nor is CNAME (sections 8.5 to 8.7, and RFC 6840, section 4); type 255 is any
 abbrev pub lacks3 : ℕ → Nsec3State → Bool
-lacks3 t n = not ((nat_eq t 255 && list_any is_told n.types) || (has n t || has n 5)) && (if nat_eq t 43 then not (has n 6) else not (is_delegation3 n))
+lacks3 t n = not ((nat_eq t 255 && list_any is_told n.types) || (has n t || has n 5))
+    && (if nat_eq t 43 then not (has n 6) else not (is_delegation3 n))
 
 -- ---- all NSEC3s of a reply
 
@@ -71,7 +72,8 @@ lacks3 t n = not ((nat_eq t 255 && list_any is_told n.types) || (has n t || has 
 -- from it whose parent an NSEC3 matches, where one covers it
 abbrev pub next_closer : Hashing → List Nsec3State → List (List ℕ) → Option (List (List ℕ))
 next_closer h ns [] = None
-next_closer h ns (l ∷ ls) = if list_any (matches3 h ls) ns then (if list_any (covers3 h (l ∷ ls)) ns then Some (l ∷ ls) else None) else next_closer h ns ls
+next_closer h ns (l ∷ ls) = if list_any (matches3 h ls) ns then (if list_any (covers3 h (l ∷ ls)) ns then Some (l ∷ ls) else None)
+    else next_closer h ns ls
 
 -- the NSEC3 of the closest encloser is no delegation's and no DNAME's (section 8.3)
 abbrev pub proves_encloser : Hashing → List Nsec3State → List (List ℕ) → Bool
@@ -100,7 +102,8 @@ proves_no_data3 h ns name t =
 
 -- no such type at the wildcard that stands for a name (section 8.7)
 abbrev pub proves_wildcard_no_data3 : Hashing → List Nsec3State → List (List ℕ) → ℕ → Bool
-proves_wildcard_no_data3 h ns name t = at_encloser h ns (λ e. list_any (λ (n : Nsec3State). matches3 h (star ∷ e) n && lacks3 t n) ns) (next_closer h ns name)
+proves_wildcard_no_data3 h ns name t = at_encloser h ns (λ e. list_any (λ (n : Nsec3State). matches3 h (star ∷ e) n && lacks3 t n) ns)
+    (next_closer h ns name)
 
 -- an answer that was made from the wildcard below a name, given its next closer name (section 8.8)
 abbrev pub proves_expansion3 : Hashing → List Nsec3State → List (List ℕ) → Bool
@@ -149,14 +152,17 @@ pub record IsChained3 (z : ZoneState) (h : Hashing) (ns : List Nsec3State) : Typ
   -- each name with authority and each delegation point with DS has an NSEC3, and each empty non-terminal that they make
   pub held : (name : List (List ℕ)) → exists_firmly z name ≡ true → is_matched h ns name ≡ true
   -- of the other names that exist, the next closer name is in a span with Opt-Out where there is none
-  pub spared : (name : List (List ℕ)) → exists z name ≡ true → is_below_cut z name ≡ false → is_matched h ns name ≡ false → is_opted_out h ns (closer h ns name) ≡ true
+  pub spared : (name : List (List ℕ)) → exists z name ≡ true → is_below_cut z name ≡ false → is_matched h ns name ≡ false
+      → is_opted_out h ns (closer h ns name) ≡ true
   -- and no other
-  pub owed : (n : Nsec3State) → Contains ns n → (name : List (List ℕ)) × (exists z name ≡ true) × (is_below_cut z name ≡ false) × (matches3 h name n ≡ true)
+  pub owed : (n : Nsec3State) → Contains ns n → (name : List (List ℕ)) × (exists z name ≡ true) × (is_below_cut z name ≡ false)
+      × (matches3 h name n ≡ true)
   -- each points to the next: it is one, and none is between
   pub next : (n : Nsec3State) → Contains ns n → list_any (λ (m : Nsec3State). bytes_eq m.hash n.next) ns ≡ true
   pub gap : (n m : Nsec3State) → Contains ns n → Contains ns m → spans m.hash n ≡ false
   -- the types are those that the zone has there
-  pub types : (n : Nsec3State) → Contains ns n → (name : List (List ℕ)) → exists z name ≡ true → is_below_cut z name ≡ false → matches3 h name n ≡ true → (t : ℕ) → IsTold t → has n t ≡ has_type z name t
+  pub types : (n : Nsec3State) → Contains ns n → (name : List (List ℕ)) → exists z name ≡ true → is_below_cut z name ≡ false
+      → matches3 h name n ≡ true → (t : ℕ) → IsTold t → has n t ≡ has_type z name t
 
 -- no NSEC3 has the hash of a name that doesn't exist: else a server must fail (section 7.2.9)
 abbrev pub IsApart : ZoneState → Hashing → List Nsec3State → List (List ℕ) → Type 0
@@ -168,7 +174,8 @@ IsApart z h ns name = is_matched h ns name ≡ true → exists z name ≡ true
 pub record IsNearest (ns : List Nsec3State) (o : List ℕ) (n : Nsec3State) : Type 0 where
   pub one : Contains ns n
   pub near : ((is_lower o n.hash ≡ false) × ((m : Nsec3State) → Contains ns m → is_lower o m.hash ≡ false → is_lower n.hash m.hash ≡ false))
-      ⊎ (((m : Nsec3State) → Contains ns m → is_lower o m.hash ≡ true) × ((m : Nsec3State) → Contains ns m → is_lower n.hash m.hash ≡ false))
+      ⊎ (((m : Nsec3State) → Contains ns m → is_lower o m.hash ≡ true)
+      × ((m : Nsec3State) → Contains ns m → is_lower n.hash m.hash ≡ false))
 
 abbrev pub IsNear : Hashing → List Nsec3State → List (List ℕ) → Nsec3State → Type 0
 IsNear h ns name n = IsNearest ns (hash_of h name) n
@@ -183,30 +190,39 @@ AreApart z h ns name = (t : List (List ℕ)) → ends_name name t ≡ true → I
 
 -- a name that doesn't exist, nor does the wildcard at its closest provable encloser
 abbrev pub NameErrorsAreProved3 : Type 0
-NameErrorsAreProved3 = (z : ZoneState) (h : Hashing) (ns : List Nsec3State) (name : List (List ℕ)) (a b w : Nsec3State) → IsWhole3 z h ns → ends_name name z.apex ≡ true → IsAnswered z name → exists z name ≡ false →
-    exists z (star ∷ provable h ns name) ≡ false → AreApart z h ns name → IsApart z h ns (star ∷ provable h ns name) →
-    IsNear h ns (provable h ns name) a → IsNear h ns (closer h ns name) b → IsNear h ns (star ∷ provable h ns name) w → proves_name_error3 h (a ∷ b ∷ w ∷ []) name ≡ true
+NameErrorsAreProved3 = (z : ZoneState) (h : Hashing) (ns : List Nsec3State) (name : List (List ℕ)) (a b w : Nsec3State)
+    → IsWhole3 z h ns → ends_name name z.apex ≡ true → IsAnswered z name → exists z name ≡ false
+    → exists z (star ∷ provable h ns name) ≡ false → AreApart z h ns name → IsApart z h ns (star ∷ provable h ns name)
+    → IsNear h ns (provable h ns name) a → IsNear h ns (closer h ns name) b → IsNear h ns (star ∷ provable h ns name) w
+    → proves_name_error3 h (a ∷ b ∷ w ∷ []) name ≡ true
 
 -- a name that has an NSEC3 and no records of a type
 abbrev pub NoDataIsProved3 : Type 0
-NoDataIsProved3 = (z : ZoneState) (h : Hashing) (ns : List Nsec3State) (name : List (List ℕ)) (t : ℕ) (a : Nsec3State) → IsWhole3 z h ns → IsAnswered z name → exists z name ≡ true → is_matched h ns name ≡ true → HasNone z name t → CanBeDenied z name t →
-    IsNear h ns name a → proves_no_data3 h (a ∷ []) name t ≡ true
+NoDataIsProved3 = (z : ZoneState) (h : Hashing) (ns : List Nsec3State) (name : List (List ℕ)) (t : ℕ) (a : Nsec3State) → IsWhole3 z h ns
+    → IsAnswered z name → exists z name ≡ true → is_matched h ns name ≡ true → HasNone z name t → CanBeDenied z name t
+    → IsNear h ns name a → proves_no_data3 h (a ∷ []) name t ≡ true
 
 -- a name that doesn't exist, for which a wildcard stands that has no records of a type
 abbrev pub WildcardNoDataIsProved3 : Type 0
-WildcardNoDataIsProved3 = (z : ZoneState) (h : Hashing) (ns : List Nsec3State) (name : List (List ℕ)) (t : ℕ) (a b w : Nsec3State) → IsWhole3 z h ns → ends_name name z.apex ≡ true → IsAnswered z name → exists z name ≡ false →
-    exists z (star ∷ provable h ns name) ≡ true → is_matched h ns (star ∷ provable h ns name) ≡ true → HasNone z (star ∷ provable h ns name) t → CanBeDenied z (star ∷ provable h ns name) t → AreApart z h ns name →
-    IsNear h ns (provable h ns name) a → IsNear h ns (closer h ns name) b → IsNear h ns (star ∷ provable h ns name) w → proves_wildcard_no_data3 h (a ∷ b ∷ w ∷ []) name t ≡ true
+WildcardNoDataIsProved3 = (z : ZoneState) (h : Hashing) (ns : List Nsec3State) (name : List (List ℕ)) (t : ℕ) (a b w : Nsec3State)
+    → IsWhole3 z h ns → ends_name name z.apex ≡ true → IsAnswered z name → exists z name ≡ false
+    → exists z (star ∷ provable h ns name) ≡ true → is_matched h ns (star ∷ provable h ns name) ≡ true
+    → HasNone z (star ∷ provable h ns name) t → CanBeDenied z (star ∷ provable h ns name) t → AreApart z h ns name
+    → IsNear h ns (provable h ns name) a → IsNear h ns (closer h ns name) b → IsNear h ns (star ∷ provable h ns name) w
+    → proves_wildcard_no_data3 h (a ∷ b ∷ w ∷ []) name t ≡ true
 
 -- a name that doesn't exist, for which a wildcard's records are given
 abbrev pub ExpansionsAreProved3 : Type 0
-ExpansionsAreProved3 = (z : ZoneState) (h : Hashing) (ns : List Nsec3State) (name : List (List ℕ)) (b : Nsec3State) → IsWhole3 z h ns → ends_name name z.apex ≡ true → exists z name ≡ false → AreApart z h ns name →
-    IsNear h ns (closer h ns name) b → proves_expansion3 h (b ∷ []) (closer h ns name) ≡ true
+ExpansionsAreProved3 = (z : ZoneState) (h : Hashing) (ns : List Nsec3State) (name : List (List ℕ)) (b : Nsec3State) → IsWhole3 z h ns
+    → ends_name name z.apex ≡ true → exists z name ≡ false → AreApart z h ns name
+    → IsNear h ns (closer h ns name) b → proves_expansion3 h (b ∷ []) (closer h ns name) ≡ true
 
 -- a delegation point without DS, with an NSEC3 or without
 abbrev pub InsecureDelegationsAreProved3 : Type 0
-InsecureDelegationsAreProved3 = (z : ZoneState) (h : Hashing) (ns : List Nsec3State) (cut : List (List ℕ)) (b : Nsec3State) → IsWhole3 z h ns → IsUnsigned z cut → is_matched h ns cut ≡ true → IsNear h ns cut b → proves_insecure3 h (b ∷ []) cut ≡ true
+InsecureDelegationsAreProved3 = (z : ZoneState) (h : Hashing) (ns : List Nsec3State) (cut : List (List ℕ)) (b : Nsec3State)
+    → IsWhole3 z h ns → IsUnsigned z cut → is_matched h ns cut ≡ true → IsNear h ns cut b → proves_insecure3 h (b ∷ []) cut ≡ true
 
 abbrev pub OptedOutDelegationsAreProved3 : Type 0
-OptedOutDelegationsAreProved3 = (z : ZoneState) (h : Hashing) (ns : List Nsec3State) (cut : List (List ℕ)) (a b : Nsec3State) → IsWhole3 z h ns → ends_name cut z.apex ≡ true → IsUnsigned z cut → is_under_dname z cut ≡ false → is_matched h ns cut ≡ false →
-    AreApart z h ns cut → IsNear h ns (provable h ns cut) a → IsNear h ns (closer h ns cut) b → proves_insecure3 h (a ∷ b ∷ []) cut ≡ true
+OptedOutDelegationsAreProved3 = (z : ZoneState) (h : Hashing) (ns : List Nsec3State) (cut : List (List ℕ)) (a b : Nsec3State)
+    → IsWhole3 z h ns → ends_name cut z.apex ≡ true → IsUnsigned z cut → is_under_dname z cut ≡ false → is_matched h ns cut ≡ false
+    → AreApart z h ns cut → IsNear h ns (provable h ns cut) a → IsNear h ns (closer h ns cut) b → proves_insecure3 h (a ∷ b ∷ []) cut ≡ true

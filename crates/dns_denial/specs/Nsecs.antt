@@ -29,4 +29,5 @@ AreSorted ns = AllPairs (λ (m : NsecState) (n : NsecState). is_before m.owner n
 
 -- how many NSECs have an owner that is not behind a name; they are the first ones
 abbrev pub IsCountUpTo : List NsecState → List (List ℕ) → ℕ → Type 0
-IsCountUpTo ns name count = IsPartitionPoint (λ (n : NsecState). is_up_to name n ≡ true) (λ (n : NsecState). is_up_to name n ≡ false) ns count
+IsCountUpTo ns name count = IsPartitionPoint (λ (n : NsecState). is_up_to name n ≡ true) (λ (n : NsecState). is_up_to name n
+    ≡ false) ns count

@@ -71,4 +71,5 @@ pub record AddsOnly (plain signed : ZoneReply) : Type 0 where
 
 -- signing adds and never changes
 abbrev pub SigningAdds : Type 0
-SigningAdds = (z : ZoneState) (proofs : List Record) (r : ZoneReply) → AllByRecursion (λ (p : Record). is_added p ≡ true) proofs → AddsOnly r (signed_reply z proofs r)
+SigningAdds = (z : ZoneState) (proofs : List Record) (r : ZoneReply) → AllByRecursion (λ (p : Record). is_added p ≡ true) proofs
+    → AddsOnly r (signed_reply z proofs r)

@@ -55,7 +55,8 @@ shown_wildcard n name = star ∷ shown_encloser n name
 
 -- no such name: it is denied, and so is the wildcard that could stand for it
 abbrev pub proves_name_error : List (List ℕ) → List NsecState → List (List ℕ) → Bool
-proves_name_error apex ns name = list_any (λ (n : NsecState). denies_name apex name n && list_any (denies_name apex (shown_wildcard n name)) ns) ns
+proves_name_error apex ns name = list_any (λ (n : NsecState). denies_name apex name n
+    && list_any (denies_name apex (shown_wildcard n name)) ns) ns
 
 -- no such type at a name
 abbrev pub proves_no_data : List (List ℕ) → List NsecState → List (List ℕ) → ℕ → Bool
@@ -63,11 +64,13 @@ proves_no_data apex ns name t = list_any (denies_type apex name t) ns
 
 -- no such type at the wildcard that stands for a name, which is denied
 abbrev pub proves_wildcard_no_data : List (List ℕ) → List NsecState → List (List ℕ) → ℕ → Bool
-proves_wildcard_no_data apex ns name t = list_any (λ (n : NsecState). denies_name apex name n && list_any (denies_type apex (shown_wildcard n name) t) ns) ns
+proves_wildcard_no_data apex ns name t = list_any (λ (n : NsecState). denies_name apex name n
+    && list_any (denies_type apex (shown_wildcard n name) t) ns) ns
 
 -- an answer that was made from a wildcard: the name is denied, and no closer wildcard could stand for it
 abbrev pub proves_expansion : List (List ℕ) → List NsecState → List (List ℕ) → List (List ℕ) → Bool
-proves_expansion apex ns name wildcard = list_any (λ (n : NsecState). denies_name apex name n && same_name (shown_wildcard n name) wildcard) ns
+proves_expansion apex ns name wildcard = list_any (λ (n : NsecState). denies_name apex name n
+    && same_name (shown_wildcard n name) wildcard) ns
 
 -- a delegation that is not signed (RFC 4035, section 5.2, and RFC 6840, section 4.4)
 abbrev pub proves_insecure : List NsecState → List (List ℕ) → Bool

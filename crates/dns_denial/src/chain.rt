@@ -106,7 +106,8 @@ impl Chain {
         alloc: Global,
         name: &NameRef<'_>,
     ) -> Result<Option<Denial<'_>>, OutOfMemory>
-        ensures last { IfOk result (λ d. MatchOption d (HasNoZone self.now name.now) (λ b. AreLast self.now name.now b.name.now b.wildcard.now)) }
+        ensures last { IfOk result (λ d. MatchOption d (HasNoZone self.now name.now)
+            (λ b. AreLast self.now name.now b.name.now b.wildcard.now)) }
         ensures name_error { IfOk result (λ d. IfSome d (λ b. ProvesNameError self.now name.now b.name.now b.wildcard.now)) }
         ensures no_data { IfOk result (λ d. IfSome d (λ b. ProvesWildcardNoData self.now name.now b.name.now b.wildcard.now)) }
     {

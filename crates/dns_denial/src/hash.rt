@@ -18,8 +18,8 @@ const MAX_ITERATIONS: u16 = 100;
 /// The largest number of octets of a salt.
 const MAX_SALT: usize = 32;
 
-/// Why parameters of NSEC3 are refused: resolvers may treat a zone with such ones as insecure, or answer SERVFAIL (RFC 9276,
-/// section 3.2).
+/// Why parameters of NSEC3 are refused. Above 100 iterations resolvers may treat a zone as insecure, or answer SERVFAIL (RFC
+/// 9276, section 3.2 and appendix A). The limit of the salt is this crate's: RFC 9276, section 3.1, advises to have none.
 #[derive(Clone, Copy, Debug)]
 pub enum HashingError {
     /// More than 100 additional iterations.

@@ -4,8 +4,8 @@
 //! - `Chain` holds the `Nsec`s of a zone in canonical order. `check` decides whether it is whole for a `ZoneTree`, and
 //!   says where it isn't (`ChainError`). `denial` and `wildcard_denial` choose those of a reply.
 //! - `HashedChain` holds the `Nsec3`s of a zone in the order of their hashes. `denial` chooses those of a reply.
-//! - `Hashing` is the hash of names that NSEC3PARAM tells. More than 100 iterations, or a salt of more than 32 octets, are
-//!   refused (`HashingError`; RFC 9276, section 3.2).
+//! - `Hashing` is the hash of names by the parameters of NSEC3PARAM. More than 100 iterations (RFC 9276, appendix A), or a
+//!   salt of more than 32 octets, are refused (`HashingError`).
 //!
 //! Nothing here makes or verifies a signature, or holds a key: zones are signed elsewhere.
 //!
@@ -28,14 +28,19 @@
 //! - So do three NSEC3s, with Opt-Out or without (`each_absence_is_proved3`), where the hashes of the names that are
 //!   looked for are apart and the chain has a proof at all (`IsProvable`: a span with Opt-Out may leave out empty
 //!   non-terminals).
-//! - `check` gives Ok exactly for a chain that is whole. Its error is the first record or NSEC that breaks it, and a
-//!   whole chain breaks nowhere (`whole_chains_break_nowhere`).
+//! - `check` gives Ok exactly for a chain that is whole. Its error is the first record that no NSEC lists, the first NSEC
+//!   that is unfounded, or one that points elsewhere, and a whole chain breaks nowhere (`whole_chains_break_nowhere`).
 //! - `hash` is that of RFC 5155, section 5, over the SHA-1 of FIPS 180-4.
 //!
 //! # What a body could still get away with
 //!
-//! How many records a check looks at. By reading the code it walks to each owner once, and to each NSEC's owner once.
-//! Names below a DNAME record, of which a zone has none (RFC 6672, section 2.4), are looked for among all records.
+//! Which of several faults `check` says, and how many records it looks at. By reading the code it walks once for each
+//! record and once for each NSEC, and each walk passes over the places of the names on its way. Names below a DNAME
+//! record, of which a zone has none (RFC 6672, section 2.4), are looked for among all records.
+//!
+//! More NSEC3s of the chain than a denial needs, and which of the three of `HashedDenial::Missing` is which: the clause
+//! says only that all that are needed are among them. `signed_reply` (`specs/Signed.antt`) is a definition that no
+//! function carries out yet.
 #![tactic(auto)]
 
 mod chain;

@@ -17,13 +17,15 @@
 //!
 //! # What is proved
 //!
-//! - Of a piece exactly the frames without QR that it makes whole are passed on, in order, each behind its length.
+//! - Of the pieces that a `QueryFrames` is fed exactly the frames without QR are given, in order, each behind its length.
 //!   What is in no whole frame yet is kept (`feed`, `take`).
 //! - Failures of a link are those of the other link, and so is who came.
 //!
 //! # What a body could still get away with
 //!
-//! A link over another tells nothing of its traffic. Without memory it ends, as if the peer sent no more.
+//! A `QueryLink` tells nothing of its traffic, so no clause says that its reads go through its `QueryFrames`: that is by
+//! reading the code, and tested (`tools/zoned`). Nor does one say how many responses `feed` says it dropped. Without
+//! memory a link ends, as if the peer sent no more.
 #![tactic(auto)]
 
 mod query_accept;

@@ -56,7 +56,7 @@ pub(crate) fn next_network(row: &mut Row<'_>) -> Vec<Network> {
     required
 }
 
-/// The same settings, by which the client's address has to have a cookie.
+/// Settings with cookies of the secret of the next word, by which the client's address has to have one.
 pub(crate) fn next_cookies(row: &mut Row<'_>) -> Settings {
     let mut settings = next_secret(row);
     let mut denied = Vec::new(row.alloc());
