@@ -75,7 +75,7 @@ AddedAs (Err NoPushMemory) result = result ≡ Err OutOfMemory
 abbrev pub SameReply : ReplyBuilder → ReplyBuilder → Type 0
 SameReply b c = (stage_of c ≡ stage_of b) × (built_of c ≡ built_of b)
 
--- a record stands last in its section, if that was begun last and has room: Order only if another was, TooLong only above the limit
+-- a record stands last in its section; Order exactly if another section was begun last, TooLong exactly above the limit
 abbrev pub PushesAt : Section → ResourceRecord → ReplyBuilder → ReplyBuilder → Result (Unit {0}) AddError → Type 0
 PushesAt section r b c (Ok u) =
     (stage_of b ≡ place_of section) × (stage_of c ≡ stage_of b) × (built_of c ≡ with_record section (built_of b) r)
