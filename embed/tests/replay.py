@@ -2,8 +2,8 @@
 
 usage: replay.py LIBRARY FOLDER..
 
-Each FOLDER has scripts NAME.script, and beside each NAME.stdout or NAME.script.stdout; with a file WORD that says `steps` it has
-those of `nutscythe steps`, in which clients hear of configurations by `look` alone. The library decides, builds and rewrites replies,
+Each FOLDER has scripts NAME.script, and beside each NAME.stdout or NAME.script.stdout. If it is named `steps`, or its file WORD says
+so, they are those of `nutscythe steps`, in which clients hear of configurations by `look` alone. The library decides, builds and rewrites replies,
 frames, queues, keeps transactions and slots, and tells the time. Each built reply is also made as octets and rewritten, and compared.
 Here stand the service that plays a script's rules, and when a client begins and ends. Left out, and counted: scripts that are
 refused, and those of another service than rules (upstreams, a zone). It ends with 1 where something differs.
@@ -495,15 +495,16 @@ def judged(library, path, by_looks):
 
 def main():
     """All scripts of the folders."""
-    library, found = Library(sys.argv[1]), collections.Counter()
+    library, differ = Library(sys.argv[1]), False
     for folder in sys.argv[2:]:
-        names = sorted(os.listdir(folder))
-        by_looks = "WORD" in names and open(os.path.join(folder, "WORD"), encoding="ascii").read().strip() == "steps"
+        names, found = sorted(os.listdir(folder)), collections.Counter()
+        word = open(os.path.join(folder, "WORD"), encoding="ascii").read().strip() if "WORD" in names else os.path.basename(folder)
         for name in names:
             if name.endswith(".script"):
-                found[judged(library, os.path.join(folder, name), by_looks)] += 1
-    print("scripts:", ", ".join(f"{count} {what}" for what, count in sorted(found.items())))
-    sys.exit("differs" in found or not found["the same"])
+                found[judged(library, os.path.join(folder, name), word == "steps")] += 1
+        print(f"scripts of {os.path.basename(folder)}:", ", ".join(f"{count} {what}" for what, count in sorted(found.items())))
+        differ |= "differs" in found or not found
+    sys.exit(differ)
 
 
 main()
