@@ -116,8 +116,8 @@ class Item:
 
 def ruled(message, word):
     """The item of a rule's word."""
-    feedback, _, reply = word.rpartition("+")
-    if word.partition(":")[0] in HEARD:
+    feedback, both, reply = word.rpartition("+")
+    if not both and word.partition(":")[0] in HEARD:
         feedback, reply = word, ""
     name, _, number = feedback.partition(":")
     heard, timeout = HEARD[name], int(number or 0)
