@@ -418,11 +418,11 @@ int main(int argc, char **argv)
     while (file != NULL && fread(head, 1, 2, file) == 2) {
         size_t size = (size_t)head[0] * 256 + head[1];
         uint8_t *exact = malloc(size + (size == 0));
-        if (fread(exact, 1, size, file) != size)
-            break;
-        hostile(&settings, exact, size);
+        if (fread(exact, 1, size, file) == size) {
+            hostile(&settings, exact, size);
+            messages++;
+        }
         free(exact);
-        messages++;
     }
     if (file != NULL)
         fclose(file);
