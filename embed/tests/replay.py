@@ -14,7 +14,7 @@ import os
 import sys
 
 sys.dont_write_bytecode = True
-from services import HEARD, MOST, Rules, Upstreams, Zone, name_at, questions, spelled, wire
+from services import HEARD, MOST, Rules, Upstreams, Zone, are_options, name_at, questions, spelled, wire
 
 DONE, REPLY, NOTHING, ASK, RESPONSE, DROPPED, CLOSE, HELD = range(8)
 FAILURE = 4
@@ -217,20 +217,23 @@ class Play:
         library.is_done("reply_begin", message, made.rcode, int(made.aa), self.reply)
         for section, owner, rtype, ttl, data in made.records:
             library.is_done("reply_add", self.reply, section, wire(owner), rtype, 1, ttl, data)
-        for code, data in made.options:
+        for code, data in made.options or []:
             library.is_done("reply_option", self.reply, code, data)
         library.is_reply("reply_write", self.reply, rule, library.room, library.length)
         return library.written()
 
     def can_be_sent(self, message):
         """Whether a message can be read, and sent on with its names uncompressed."""
-        library, section, size = self.library, c.c_uint32(), 12
+        library, section, size, options = self.library, c.c_uint32(), 12, b""
         library.is_done("message_read", message, self.reader)
         while (status := library.call("message_next", self.reader, library.room, library.length, section)) == DONE:
             item = library.written()
             end = name_at(item, 0)[1]
-            size += len(item) if section.value == 0 or item[end:end + 2] != OPT.to_bytes(2, "big") else 0
-        return status == NOTHING and size <= MOST
+            if section.value > 0 and item[end:end + 2] == OPT.to_bytes(2, "big"):
+                options = options or item[end + 10:]
+            else:
+                size += len(item)
+        return status == NOTHING and size <= MOST and are_options(options)
 
     # -- events
 

@@ -10,6 +10,9 @@ EXTENDED_ERROR, PADDING = 15, 12
 A, NS, CNAME, SOA, AAAA, OPT, ANY = 1, 2, 5, 6, 28, 41, 255
 # How many aliases a zone follows.
 ALIASES = 8
+# How long the data of options may be; of the others any data is read.
+LENGTHS = {9: (0, 4), 10: (8, *range(16, 41)), 11: (0, 2), 14: range(0, 65536, 2), 15: range(2, 65536)}
+SUBNET, CHAIN = 8, 13
 
 
 # ---- names and questions
@@ -69,25 +72,53 @@ def ends(labels, others):
     return spelled(labels[max(len(labels) - len(others), 0):]) == spelled(others)
 
 
+def is_subnet(data):
+    """Whether data is a client subnet (RFC 7871, section 6)."""
+    size = {b"\0\1": 4, b"\0\2": 16}.get(data[:2])
+    if size is None or len(data) < 4 or data[2] > 8 * size or len(data) != 4 + (data[2] + 7) // 8:
+        return False
+    return data[2] % 8 == 0 or data[-1] % (1 << (8 - data[2] % 8)) == 0
+
+
+def is_option(code, data):
+    """Whether an option can be read: one of another kind is octets."""
+    if code == SUBNET:
+        return is_subnet(data)
+    if code == CHAIN:
+        return b"\xc0" > data[:1] and name_at(data, 0) is not None and wire(name_at(data, 0)[0]) == data
+    return code not in LENGTHS or len(data) in LENGTHS[code]
+
+
+def are_options(data):
+    """Whether each option of an OPT record's data can be read."""
+    at = 0
+    while at + 4 <= len(data):
+        code, size = int.from_bytes(data[at:at + 2], "big"), int.from_bytes(data[at + 2:at + 4], "big")
+        if not is_option(code, data[at + 4:at + 4 + size]):
+            return False
+        at += 4 + size
+    return at == len(data)
+
+
 # ---- what a poll gives
 
 class Reply:
-    """A reply to a message: its response code, whether it is authoritative, its records and its options."""
+    """A reply to a message: its response code, whether it is authoritative, its records, and the options of its OPT record, if any."""
 
-    def __init__(self, rcode=0, is_authoritative=False, records=(), options=()):
-        self.rcode, self.aa, self.records, self.options = rcode, is_authoritative, list(records), list(options)
+    def __init__(self, rcode=0, is_authoritative=False, records=(), options=None):
+        self.rcode, self.aa, self.records, self.options = rcode, is_authoritative, list(records), options
 
     def octets(self, message):
         """It as octets, with the message's identifier, opcode, RD and questions."""
         asked = questions(message)
         counts = [sum(section == one for section, *_ in self.records) for one in (ANSWER, AUTHORITY, ADDITIONAL)]
-        counts[2] += bool(self.options)
+        counts[2] += self.options is not None
         octets = message[:2] + bytes([0x80 | self.aa << 2 | message[2] & 0x79, self.rcode])
         octets += b"".join(count.to_bytes(2, "big") for count in [len(asked), *counts])
         octets += b"".join(wire(labels) + more for labels, more in asked)
         for _, owner, rtype, ttl, data in self.records:
             octets += wire(owner) + rtype.to_bytes(2, "big") + b"\0\1" + ttl.to_bytes(4, "big") + len(data).to_bytes(2, "big") + data
-        if self.options:
+        if self.options is not None:
             data = b"".join(code.to_bytes(2, "big") + len(it).to_bytes(2, "big") + it for code, it in self.options)
             octets += b"\0" + OPT.to_bytes(2, "big") + bytes(6) + len(data).to_bytes(2, "big") + data
         return octets
@@ -108,8 +139,11 @@ class Item:
             if len(made) > MOST:
                 self.heard, self.reply, self.error = 0, None, SERVFAIL
             # Of octets the client subnets and the extended errors are kept alone.
-            elif all(code == EXTENDED_ERROR for code, _ in reply.options):
+            elif all(code == EXTENDED_ERROR for code, _ in reply.options or []):
                 self.octets = made
+            # An OPT record without options isn't built.
+            if reply.options == []:
+                self.reply = None
 
 
 # ---- rules
@@ -165,7 +199,7 @@ class Upstreams:
         """What the polls give: of the upstream with the most labels, and among those the last one."""
         asked = questions(message)
         if not asked:
-            return [Item(message, reply=Reply(FORMERR))]
+            return [Item(message, reply=Reply(FORMERR, options=[]))]
         fits = [(len(name), i) for i, (name, _) in enumerate(self.upstreams) if ends(asked[0][0], name)]
         if not fits:
             return [Item(message, reply=explained(b"No upstream for request"))]
