@@ -1,5 +1,6 @@
 """Compares the exports of the crate nutscythe_c with the header: names, and each parameter's width and whether it is a
-pointer; and that each raw call has its inline call in the header, which gives `p, p != NULL` of each object.
+pointer; that each raw call has its inline call in the header, which gives `p, p != NULL` of each object; the numbers of statuses;
+and the fields of structs, by name, order and width.
 
 usage: check_header.py HEADER SOURCE..
 """
@@ -55,9 +56,41 @@ def inlined(text):
     return {f"nutscythe_raw_{name}": body.count("!= NULL") for name, body in calls if f"nutscythe_raw_{name}(" in body}
 
 
+def numbers(body, prefix=""):
+    """The names of an enum, in small letters with no `_` between words, and their numbers."""
+    return {name.removeprefix(prefix).replace("_", "").lower(): int(number) for name, number in re.findall(r"(\w+) = (\d+)", body)}
+
+
+def statuses(source, header):
+    """The statuses of the crate, and those of the header."""
+    ours = re.search(r"pub enum Status \{(.*?)\n\}", source, re.S)[1]
+    theirs = re.search(r"enum nutscythe_status \{(.*?)\}", header, re.S)[1]
+    return numbers(ours), numbers(theirs, "NUTSCYTHE_")
+
+
+def structs(source):
+    """Of each struct that C sees, by its name in C, the names and widths of its fields; a pointer is 'p'."""
+    found = {}
+    for name, body in re.findall(r"#\[repr\(C\)\]\n(?:#\[[^\n]*\]\n)*pub struct (\w+) \{(.*?)\n\}", source, re.S):
+        fields = re.findall(r"^    (?:pub )?(\w+): (?:(\*)mut \w+|\[(\w+); (\d+)\]|(\w+)),", body, re.M)
+        found["nutscythe" + re.sub(r"[A-Z]", lambda it: "_" + it[0].lower(), name)] = [
+            (field, "p" if star else RT[of or kind] * int(many or 1)) for field, star, of, many, kind in fields if kind != "Global"]
+    return found
+
+
+def declared_structs(header):
+    """The same of the header."""
+    found = {}
+    for body, name in re.findall(r"typedef struct \w+ \{(.*?)\} (\w+);", header, re.S):
+        fields = re.findall(r"(\w+) (\*?)(\w+)(?:\[(\d+)\])?;", body)
+        found[name] = [(field, "p" if star else C[kind] * int(many or 1)) for kind, star, field, many in fields]
+    return found
+
+
 def main():
     """Says what differs, with status 1."""
-    ours, objects = exports("\n".join(open(name, encoding="utf-8").read() for name in sys.argv[2:]))
+    source = "\n".join(open(name, encoding="utf-8").read() for name in sys.argv[2:])
+    ours, objects = exports(source)
     with open(sys.argv[1], encoding="utf-8") as it:
         header = re.sub(r"/\*.*?\*/", "", it.read(), flags=re.S)
     theirs, inline = declared(header), inlined(header)
@@ -69,6 +102,12 @@ def main():
         elif objects[name] != inline.get(name):
             print(f"{name}: {objects[name]} objects, of which the inline call tests {inline.get(name)}")
             wrong += 1
+    for what, one, other in ("statuses", *statuses(source, header)), ("structs", structs(source), declared_structs(header)):
+        for name in sorted({*one, *other}):
+            if one.get(name) != other.get(name):
+                print(f"{what}, {name}: the crate has {one.get(name)}, the header {other.get(name)}")
+                wrong += 1
+        print(f"{len(one)} {what}")
     print(f"{len(ours)} exports, {wrong} wrong")
     sys.exit(bool(wrong or not ours))
 

@@ -209,7 +209,8 @@ static inline uint32_t nutscythe_settings_new(bool strict, bool edns, nutscythe_
 }
 
 /* Reads settings of a text of len octets, in the lines of a script before its first event (docs/scripts.md): strict, edns,
- * secret, deny, dgram, stream, budget. What no line says is as in new strict settings with EDNS.
+ * secret, deny, dgram, stream, budget. What no line says is as in new strict settings with EDNS. A number that is out of its
+ * range is moved to the nearest end of it, as in scripts; only a size above 65,535 is a bad line.
  * takes: what the handle held is let go of, if the call is DONE.
  * gives: DONE, and the handle holds the settings.
  * refuses: BAD_LINE, and *refusal says the first bad line and why; NO_MEMORY, NULL_POINTER; the handle holds what it held. */

@@ -71,7 +71,10 @@ fn main() -> std::io::Result<()> {
     assert_eq!(unsafe { nutscythe_raw_settings_new(true, true, &mut settings, 1) }, 0);
     let (mut message, mut reply) = ([0u8; 65535], [0u8; 65535]);
     for _ in 0..words[2].parse::<u32>().unwrap() {
-        let Ok((len, from)) = link.recv_from(&mut message) else { break };
+        let (len, from) = match link.recv_from(&mut message) {
+            Ok(came) => came,
+            Err(_) => break,
+        };
         let now = SystemTime::now().duration_since(UNIX_EPOCH).unwrap();
         let mut octets = [0; 16];
         if let IpAddr::V4(ip) = from.ip() {

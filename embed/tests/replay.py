@@ -2,26 +2,26 @@
 
 usage: replay.py LIBRARY FOLDER..
 
-Each FOLDER has scripts NAME.script, and beside each NAME.stdout or NAME.script.stdout; with a file WORD that says `steps` it has
-those of `nutscythe steps`, in which clients hear of configurations by `look` alone. The library decides, builds and rewrites replies,
-frames, queues, keeps transactions and slots, and tells the time. Each built reply is also made as octets and rewritten, and compared.
-Here stand the service that plays a script's rules, and when a client begins and ends. Left out, and counted: scripts that are
-refused, and those of another service than rules (upstreams, a zone). It ends with 1 where something differs.
+Each FOLDER has scripts NAME.script, and beside each NAME.stdout or NAME.script.stdout. If it is named `steps`, or its file WORD says
+so, they are those of `nutscythe steps`, in which clients hear of configurations by `look` alone. The library decides, builds and
+rewrites replies, frames, queues, keeps transactions and slots, and tells the time. Each built reply is also made as octets and
+rewritten, and compared. Here stands when a client begins and ends, and in services.py what a script's service gives. Left out, and
+counted: scripts that are refused. It ends with 1 where something differs.
 """
 import collections
 import ctypes as c
 import os
 import sys
 
+sys.dont_write_bytecode = True
+from services import HEARD, MOST, Rules, Upstreams, Zone, are_options, name_at, questions, spelled, wire
+
 DONE, REPLY, NOTHING, ASK, RESPONSE, DROPPED, CLOSE, HELD = range(8)
-TOO_LONG = 21
-HEARD = {"": 0, "begin": 1, "end": 2, "idle": 3}
 FAILURE = 4
 ADMIT, RELEASE, SHUTDOWN = range(3)
 SETTINGS = {"strict", "edns", "secret", "deny", "dgram", "stream", "budget"}
-RCODES = {"formerr": 1, "servfail": 2, "notimp": 4, "refused": 5}
 VERDICTS = {"ok": 0, "notauth": 1, "other": 2}
-MOST = 65535
+OPT = 41
 
 
 class Handle(c.Structure):
@@ -43,10 +43,6 @@ class Rule(c.Structure):
 class LineRefusal(c.Structure):
     """Why a text says no settings."""
     _fields_ = [("line", c.c_uint64), ("reason", c.c_uint32)]
-
-
-class LeftOut(Exception):
-    """What the library has no call for."""
 
 
 class Library:
@@ -84,94 +80,13 @@ class Library:
             raise ValueError(f"{name}: status {status}")
 
 
-# ---- the service
-
-def name_at(message, at):
-    """A name's labels and where it ends, or None."""
-    labels, end, size = [], None, 1
-    while at < len(message):
-        length = message[at]
-        if length >= 192:
-            to = (length & 63) * 256 + message[at + 1] if at + 1 < len(message) else at
-            end = end or at + 2
-            if to >= at:
-                return None
-            at = to
-        elif length > 63 or at + length >= len(message):
-            return None
-        elif length == 0:
-            return labels, end or at + 1
-        else:
-            labels.append(message[at + 1:at + 1 + length])
-            size, at = size + length + 1, at + 1 + length
-            if size > 255:
-                return None
-    return None
-
-
-def questions(message):
-    """The questions up to the first that can't be read, each as its labels and its type and class."""
-    at, found = 12, []
-    for _ in range(int.from_bytes(message[4:6], "big")):
-        name = name_at(message, at)
-        if name is None or name[1] + 4 > len(message):
-            break
-        found.append((name[0], message[name[1]:name[1] + 4]))
-        at = name[1] + 4
-    return found
-
-
-def spelled(labels):
-    """A name as a script writes it, in lower case."""
-    return b"".join(label.lower() + b"." for label in labels) or b"."
-
-
-def begun(message, rcode, answers):
-    """The reply to a message: identifier, opcode, RD and questions; and an answer of the root's name and type 65280, if any."""
-    asked = questions(message)
-    octets = message[:2] + bytes([0x80 | message[2] & 0x79, rcode]) + len(asked).to_bytes(2, "big") + len(answers).to_bytes(2, "big") + bytes(4)
-    octets += b"".join(b"".join(bytes([len(label)]) + label for label in labels) + b"\0" + more for labels, more in asked)
-    for ttl, data in answers:
-        octets += b"\0\xff\0\0\1" + ttl.to_bytes(4, "big") + len(data).to_bytes(2, "big") + data
-    return octets
-
-
-def records_of(kind, number):
-    """The answer records of a reply, as TTL and data, and the options."""
-    return {"rcode": ([], []), "fill": ([(0, bytes(number))], []), "live": ([(number, b"")], []), "opt": ([], [bytes(number)])}[kind]
-
-
-class Item:
-    """What one poll gives: what is heard, and a reply as its octets, its parts, or the response code of an error."""
-
-    def __init__(self, message, word):
-        feedback, _, reply = word.rpartition("+")
-        if word.partition(":")[0] in HEARD:
-            feedback, reply = word, ""
-        name, _, number = feedback.partition(":")
-        self.heard, self.timeout, self.octets, self.parts, self.error = HEARD[name], int(number or 0), None, None, None
-        kind, _, number = reply.partition(":")
-        number = int(number or 0)
-        if kind in RCODES:
-            self.error = RCODES[kind]
-        elif kind == "blank":
-            self.octets = bytes(3) + bytes([number]) + bytes(8)
-        elif kind:
-            answers, options = records_of(kind, number)
-            rcode = number if kind == "rcode" else 0
-            octets = begun(message, rcode, answers)
-            self.octets, self.parts = None if options else octets, (rcode, answers, options)
-            if len(octets) + sum(15 + len(data) for data in options) > MOST:
-                self.heard, self.error = 0, RCODES["servfail"]
-
-
 # ---- a script
 
 class Script:
-    """Its settings as text, its rules and verdicts, and its events."""
+    """Its settings as text, its service and verdicts, and its events."""
 
     def __init__(self, text):
-        self.settings, self.config, self.rules, self.verdicts, self.events = [], {}, [], [], []
+        self.settings, self.config, self.service, self.verdicts, self.events = [], {}, Rules(), [], []
         for line in text.split(b"\n"):
             words = line.removesuffix(b"\r").decode("latin-1").split(" ")
             words = [word for word in words if word]
@@ -185,12 +100,16 @@ class Script:
             self.config[kind] = more
         elif kind in SETTINGS:
             self.settings.append(" ".join(words))
-        elif kind == "rule":
-            self.rules.append((None if more[0] == "*" else more[0].lower().encode(), more[1:]))
+        elif kind in ("rule", "record"):
+            self.service.add(more)
+        elif kind == "upstream":
+            self.service = self.service if isinstance(self.service, Upstreams) else Upstreams()
+            self.service.add(more)
+        elif kind == "zone":
+            self.service = Zone()
+            self.service.begin(more)
         elif kind == "notify":
             self.verdicts.append((more[0].lower().encode(), len(more) - 2, VERDICTS[more[-1]]))
-        elif kind in ("upstream", "zone", "record"):
-            raise LeftOut("another service")
         elif kind in ("reconfigure", "shutdown"):
             self.events.append(words)
         else:
@@ -203,14 +122,6 @@ class Script:
     def idle(self):
         """For how long a connection may be idle, as it is now."""
         return min(max(int(self.config["stream"][0]), 200), 2592000000) if "stream" in self.config else 30000
-
-    def answers_to(self, message):
-        """The answers of the first rule that fits."""
-        asked = questions(message)
-        for name, answers in self.rules:
-            if name is None or asked and spelled(asked[0][0]) == name:
-                return answers
-        return ["refused"]
 
     def verdict_on(self, message):
         """How often the verdict is pending, and the verdict."""
@@ -242,14 +153,14 @@ class Play:
 
     def __init__(self, library, script, by_looks):
         self.library, self.script, self.by_looks = library, script, by_looks
-        self.clients, self.lines, self.settings, self.book, self.reply = {}, [], Handle(), Handle(), Handle()
+        self.clients, self.lines, self.settings, self.book, self.reply, self.reader = {}, [], Handle(), Handle(), Handle(), Handle()
         self.version, self.is_over = 0, False
         library.is_done("settings_read", script.text(), self.settings, LineRefusal())
         library.is_done("book_open", self.settings, self.book)
         for words in script.events:
             getattr(self, words[0])(words, int(words[1]), int(words[2]))
         handles = [client.handle for client in self.clients.values() if client is not None and client.handle is not None]
-        for handle in [*handles, self.settings, self.book, self.reply]:
+        for handle in [*handles, self.settings, self.book, self.reply, self.reader]:
             library.is_done("free", handle)
 
     def say(self, *words):
@@ -278,7 +189,7 @@ class Play:
                 pends, verdict = self.script.verdict_on(cut)
             client.requests.append(Request([(0, 0, None)] * pends + [(0, 0, self.decided(client, at, secs, message, verdict)[1])]))
         elif status == ASK:
-            items = [Item(cut, word) if word != "pend" else None for word in self.script.answers_to(cut)]
+            items = self.script.service.items(cut, self.can_be_sent)
             client.requests.append(Request([(0, 0, None) if item is None else self.given(cut, rule, item) for item in items]))
         elif status != NOTHING:
             raise ValueError(f"decide: status {status}")
@@ -293,23 +204,36 @@ class Play:
         if item.octets is not None:
             library.is_reply("rewrite", rule, item.octets, library.room, library.length)
             reply = library.written()
-        if item.parts is not None:
-            built = self.built(message, rule, *item.parts)
+        if item.reply is not None:
+            built = self.built(message, rule, item.reply)
             if reply not in (None, built):
                 raise ValueError(f"built {built.hex()}, rewritten {reply.hex()}")
             reply = built
         return item.heard, item.timeout, reply
 
-    def built(self, message, rule, rcode, answers, options):
+    def built(self, message, rule, made):
         """A reply that is built."""
         library = self.library
-        library.is_done("reply_begin", message, rcode, 0, self.reply)
-        for ttl, data in answers:
-            library.is_done("reply_add", self.reply, 1, b"\0", 65280, 1, ttl, data)
-        for data in options:
-            library.is_done("reply_option", self.reply, 12, data)
+        library.is_done("reply_begin", message, made.rcode, int(made.aa), self.reply)
+        for section, owner, rtype, ttl, data in made.records:
+            library.is_done("reply_add", self.reply, section, wire(owner), rtype, 1, ttl, data)
+        for code, data in made.options or []:
+            library.is_done("reply_option", self.reply, code, data)
         library.is_reply("reply_write", self.reply, rule, library.room, library.length)
         return library.written()
+
+    def can_be_sent(self, message):
+        """Whether a message can be read, and sent on with its names uncompressed."""
+        library, section, size, options = self.library, c.c_uint32(), 12, b""
+        library.is_done("message_read", message, self.reader)
+        while (status := library.call("message_next", self.reader, library.room, library.length, section)) == DONE:
+            item = library.written()
+            end = name_at(item, 0)[1]
+            if section.value > 0 and item[end:end + 2] == OPT.to_bytes(2, "big"):
+                options = options or item[end + 10:]
+            else:
+                size += len(item)
+        return status == NOTHING and size <= MOST and are_options(options)
 
     # -- events
 
@@ -480,10 +404,7 @@ def judged(library, path, by_looks):
         return "left out: refused"
     wanted = next(it for it in (f"{name}.stdout", f"{path}.stdout") if os.path.exists(it))
     with open(path, "rb") as text, open(wanted, encoding="ascii") as it:
-        try:
-            lines = Play(library, Script(text.read()), by_looks).lines
-        except LeftOut as why:
-            return f"left out: {why}"
+        lines = Play(library, Script(text.read()), by_looks).lines
         wanted = it.read().splitlines()
     if lines == wanted:
         return "the same"
@@ -495,15 +416,16 @@ def judged(library, path, by_looks):
 
 def main():
     """All scripts of the folders."""
-    library, found = Library(sys.argv[1]), collections.Counter()
+    library, differ = Library(sys.argv[1]), False
     for folder in sys.argv[2:]:
-        names = sorted(os.listdir(folder))
-        by_looks = "WORD" in names and open(os.path.join(folder, "WORD"), encoding="ascii").read().strip() == "steps"
+        names, found = sorted(os.listdir(folder)), collections.Counter()
+        word = open(os.path.join(folder, "WORD"), encoding="ascii").read().strip() if "WORD" in names else os.path.basename(folder)
         for name in names:
             if name.endswith(".script"):
-                found[judged(library, os.path.join(folder, name), by_looks)] += 1
-    print("scripts:", ", ".join(f"{count} {what}" for what, count in sorted(found.items())))
-    sys.exit("differs" in found or not found["the same"])
+                found[judged(library, os.path.join(folder, name), word == "steps")] += 1
+        print(f"scripts of {os.path.basename(folder)}:", ", ".join(f"{count} {what}" for what, count in sorted(found.items())))
+        differ |= "differs" in found or not found
+    sys.exit(differ)
 
 
 main()

@@ -1,4 +1,4 @@
-/* Eight threads, each with a copy of the settings and replies of its own. usage: threads COUNT */
+/* Eight threads, each with a copy of the settings, and with replies, messages and a connection of its own. usage: threads COUNT */
 #include <nutscythe.h>
 
 #undef NDEBUG
@@ -14,10 +14,27 @@ static const uint8_t query[] = "\x12\x34\x01\x00\x00\x01\x00\x00\x00\x00\x00\x00
 static nutscythe_settings copies[THREADS];
 static long count;
 
+/* A query over a connection, and its reply. */
+static void stream(nutscythe_connection *connection, uint64_t at)
+{
+    uint8_t frame[sizeof query + 1] = {0, sizeof query - 1}, octets[512];
+    size_t len = 0;
+    memcpy(frame + 2, query, sizeof query - 1);
+    assert(nutscythe_connection_feed(connection, frame, sizeof frame) == NUTSCYTHE_DONE);
+    assert(nutscythe_connection_next(connection, at, octets, sizeof octets, &len) == NUTSCYTHE_DONE && len == sizeof query - 1);
+    assert(nutscythe_connection_offer(connection, at, octets, len) == NUTSCYTHE_DONE);
+    assert(nutscythe_connection_front(connection, octets, sizeof octets, &len) == NUTSCYTHE_DONE && len == sizeof frame);
+    assert(nutscythe_connection_written(connection, at, 1) == NUTSCYTHE_DONE);
+}
+
 static void *work(void *word)
 {
     nutscythe_settings *settings = word;
     nutscythe_reply built = NUTSCYTHE_NONE;
+    nutscythe_reader reader = NUTSCYTHE_NONE;
+    nutscythe_connection connection = NUTSCYTHE_NONE;
+    uint32_t section = 9;
+    assert(nutscythe_connection_open(settings, 0, &connection) == NUTSCYTHE_DONE);
     nutscythe_origin origin = {.secs = 1700000000, .size = 1232, .octets = {192, 0, 2, 7}, .port = 53, .family = 4, .over = 1};
     for (long i = 0; i < count; i++) {
         uint8_t reply[512];
@@ -32,8 +49,13 @@ static void *work(void *word)
             assert(nutscythe_reply_begin(query, sizeof query - 1, 0, true, &built) == NUTSCYTHE_DONE);
             assert(nutscythe_reply_add(&built, NUTSCYTHE_ANSWER, query + 12, 13, 1, 1, 60, origin.octets, 4) == NUTSCYTHE_DONE);
             assert(nutscythe_reply_write(&built, &rule, reply, sizeof reply, &len) == NUTSCYTHE_REPLY && len == 56);
+            assert(nutscythe_message_read(reply, len, &reader) == NUTSCYTHE_DONE);
+            assert(nutscythe_message_next(&reader, reply, sizeof reply, &len, &section) == NUTSCYTHE_DONE && len == 17);
+            stream(&connection, (uint64_t)i);
         }
     }
+    nutscythe_free(&connection);
+    nutscythe_free(&reader);
     nutscythe_free(&built);
     nutscythe_free(settings);
     return NULL;
@@ -57,6 +79,6 @@ int main(int argc, char **argv)
     nutscythe_free(&settings);
     for (int i = 0; i < THREADS; i++)
         pthread_join(threads[i], NULL);
-    puts("done");
+    printf("%d threads, %ld messages each\n", THREADS, count);
     return 0;
 }

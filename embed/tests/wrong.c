@@ -1,5 +1,5 @@
 /* Wrong calls, and hostile messages in blocks of exact size: the statuses, and what stays as it was.
- * usage: wrong CALLS [FILE] (FILE: messages, each behind its length in two octets) */
+ * usage: wrong CALLS [FILE] (so many wrong calls or some more; FILE: messages, each behind its length in two octets) */
 #include <nutscythe.h>
 
 #undef NDEBUG
@@ -13,6 +13,8 @@ static const uint8_t seed[] = "\x12\x34\x01\x00\x00\x01\x00\x00\x00\x00\x00\x01\
 static const size_t seed_len = sizeof seed - 1;
 static uint64_t state = 88172645463325252u;
 static unsigned long seen[32];
+/* How many calls were wrong. */
+static long made;
 
 static uint64_t number(void)
 {
@@ -31,6 +33,7 @@ static uint32_t count(uint32_t status)
 
 static void is(uint32_t status, uint32_t wanted)
 {
+    made += status >= NUTSCYTHE_NO_MEMORY;
     if (count(status) != wanted) {
         fprintf(stderr, "status %u, wanted %u\n", status, wanted);
         abort();
@@ -142,6 +145,79 @@ static void configured(void)
     is(nutscythe_connection_tick(&connection, 207), NUTSCYTHE_CLOSE);
     is(nutscythe_free(&connection), NUTSCYTHE_DONE);
     is(nutscythe_free(&settings), NUTSCYTHE_DONE);
+}
+
+/* Lengths of 0: octets that are none, and buffers that hold none. */
+static void empty(nutscythe_settings *s)
+{
+    uint8_t frame[2];
+    size_t len = 77;
+    uint32_t request = 0, section = 9;
+    nutscythe_rule rule = {.id = 3};
+    nutscythe_line_refusal refusal = {.line = 9};
+    nutscythe_handle other = NUTSCYTHE_NONE;
+    nutscythe_origin origin = {.octets = {127, 0, 0, 1}, .port = 53, .family = 4};
+    is(nutscythe_decide(s, &origin, 1, seed, 0, NULL, 0, &len, &rule), NUTSCYTHE_NOTHING);
+    is(nutscythe_datagram(s, &origin, 1, seed, 0, NULL, 0, &len, &rule), NUTSCYTHE_NOTHING);
+    is(nutscythe_rewrite(&rule, seed, 0, NULL, 0, &len), NUTSCYTHE_UNREADABLE);
+    is(nutscythe_refuse(&rule, seed, 0, 2, NULL, 0, &len), NUTSCYTHE_UNREADABLE);
+    is(nutscythe_settings_cookies(s, seed, 0), NUTSCYTHE_OUT_OF_RANGE);
+    is(nutscythe_settings_deny(s, seed, 0), NUTSCYTHE_OUT_OF_RANGE);
+    is(nutscythe_reply_begin(seed, 0, 0, true, &other), NUTSCYTHE_UNREADABLE);
+    is(nutscythe_message_read(seed, 0, &other), NUTSCYTHE_UNREADABLE);
+    assert(len == 77 && rule.id == 3 && other.at == NULL);
+    is(nutscythe_refuse(&rule, seed, seed_len, 2, NULL, 0, &len), NUTSCYTHE_NO_ROOM);
+    assert(len >= 12 && len != 77);
+    is(nutscythe_reply_begin(seed, seed_len, 0, true, &other), NUTSCYTHE_DONE);
+    is(nutscythe_reply_add(&other, NUTSCYTHE_ANSWER, seed, 0, 1, 1, 60, seed, 4), NUTSCYTHE_UNREADABLE);
+    is(nutscythe_reply_add(&other, NUTSCYTHE_ANSWER, seed + 12, 13, 1, 1, 60, seed, 0), NUTSCYTHE_DONE);
+    is(nutscythe_reply_option(&other, 15, seed, 0), NUTSCYTHE_DONE);
+    is(nutscythe_reply_write(&other, &rule, NULL, 0, &len), NUTSCYTHE_NO_ROOM);
+    is(nutscythe_message_read(seed, seed_len, &other), NUTSCYTHE_DONE);
+    is(nutscythe_message_next(&other, NULL, 0, &len, &section), NUTSCYTHE_NO_ROOM);
+    assert(len == 17 && section == 9);
+    is(nutscythe_connection_open(s, 1, &other), NUTSCYTHE_DONE);
+    is(nutscythe_connection_feed(&other, seed, 0), NUTSCYTHE_DONE);
+    is(nutscythe_connection_next(&other, 1, NULL, 0, &len), NUTSCYTHE_NOTHING);
+    is(nutscythe_connection_give(&other, 1, &request, NUTSCYTHE_HEAR_NOTHING, 0, seed, 0), NUTSCYTHE_DONE);
+    is(nutscythe_connection_front(&other, NULL, 0, &len), NUTSCYTHE_NOTHING);
+    is(nutscythe_connection_offer(&other, 1, seed, 0), NUTSCYTHE_DONE);
+    is(nutscythe_connection_front(&other, NULL, 0, &len), NUTSCYTHE_NO_ROOM);
+    is(nutscythe_connection_front(&other, frame, len, &len), NUTSCYTHE_DONE);
+    assert(len == 2 && frame[0] == 0 && frame[1] == 0);
+    is(nutscythe_settings_read(NULL, 0, &other, &refusal), NUTSCYTHE_DONE);
+    assert(refusal.line == 9);
+    is(nutscythe_free(&other), NUTSCYTHE_DONE);
+}
+
+/* A handle of each kind, freed and freed again: it holds nothing, and each call says so. */
+static void freed(nutscythe_settings *s)
+{
+    uint8_t octets[64];
+    size_t len = 77;
+    uint32_t section = 9;
+    nutscythe_rule rule = {.id = 3};
+    for (int kind = 0; kind < 5; kind++) {
+        nutscythe_handle handle = NUTSCYTHE_NONE;
+        switch (kind) {
+        case 0: is(nutscythe_settings_copy(s, &handle), NUTSCYTHE_DONE); break;
+        case 1: is(nutscythe_connection_open(s, 1, &handle), NUTSCYTHE_DONE); break;
+        case 2: is(nutscythe_reply_begin(seed, seed_len, 0, true, &handle), NUTSCYTHE_DONE); break;
+        case 3: is(nutscythe_message_read(seed, seed_len, &handle), NUTSCYTHE_DONE); break;
+        case 4: is(nutscythe_book_open(s, &handle), NUTSCYTHE_DONE); break;
+        }
+        for (int i = 0; i < 2; i++) {
+            assert((handle.at != NULL) == (i == 0));
+            is(nutscythe_free(&handle), NUTSCYTHE_DONE);
+        }
+        is(nutscythe_settings_cookies(&handle, seed, 16), NUTSCYTHE_NO_HANDLE);
+        is(nutscythe_connection_front(&handle, octets, sizeof octets, &len), NUTSCYTHE_NO_HANDLE);
+        is(nutscythe_reply_write(&handle, &rule, octets, sizeof octets, &len), NUTSCYTHE_NO_HANDLE);
+        is(nutscythe_message_next(&handle, octets, sizeof octets, &len, &section), NUTSCYTHE_NO_HANDLE);
+        is(nutscythe_book_call(&handle, NUTSCYTHE_RELEASE), NUTSCYTHE_NO_HANDLE);
+        is(nutscythe_configure(s, &handle), NUTSCYTHE_NO_HANDLE);
+        assert(handle.at == NULL && len == 77 && section == 9);
+    }
 }
 
 /* A reply that is built, out of order, too long, into a short buffer, and read again. */
@@ -324,10 +400,14 @@ int main(int argc, char **argv)
     nutscythe_line_refusal refusal;
     is(nutscythe_settings_read((const uint8_t *)text, sizeof text - 1, &settings, &refusal), NUTSCYTHE_DONE);
     is(nutscythe_connection_open(&settings, 1, &connection), NUTSCYTHE_DONE);
-    nulls(&settings, &connection);
-    configured();
-    for (long i = 0; i < calls / 60; i++)
+    do {
+        nulls(&settings, &connection);
+        empty(&settings);
+        freed(&settings);
+        configured();
         wrong(&settings, &connection);
+    } while (made < calls);
+    calls = made;
     for (uint64_t i = 0; i < 100; i++)
         stream(&connection, 1000 * i);
     is(nutscythe_connection_feed(&connection, (const uint8_t *)"\0\3abc", 5), NUTSCYTHE_DONE);
@@ -338,18 +418,18 @@ int main(int argc, char **argv)
     while (file != NULL && fread(head, 1, 2, file) == 2) {
         size_t size = (size_t)head[0] * 256 + head[1];
         uint8_t *exact = malloc(size + (size == 0));
-        if (fread(exact, 1, size, file) != size)
-            break;
-        hostile(&settings, exact, size);
+        if (fread(exact, 1, size, file) == size) {
+            hostile(&settings, exact, size);
+            messages++;
+        }
         free(exact);
-        messages++;
     }
     if (file != NULL)
         fclose(file);
     nutscythe_free(&held);
     nutscythe_free(&connection);
     nutscythe_free(&settings);
-    printf("%ld messages; statuses", messages);
+    printf("%ld wrong calls, %ld messages; statuses", calls, messages);
     for (int i = 0; i < 32; i++)
         if (seen[i])
             printf(" %d:%lu", i, seen[i]);
