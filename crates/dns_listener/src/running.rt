@@ -52,7 +52,11 @@ impl Offer {
         target: &Arc<NotifyTarget>,
         identifier: &Option<Identifier>,
         tally: Tally,
-    ) -> Result<Offer, OutOfMemory> {
+    ) -> Result<Offer, OutOfMemory>
+        ensures settings { IfOk result (λ o. o.settings ≡ settings.now) }
+        ensures service { IfOk result (λ o. o.service ≡ service.now) }
+        ensures target { IfOk result (λ o. o.target ≡ target.now) }
+    {
         let service = Arc::try_clone(service)?;
         let target = Arc::try_clone(target)?;
         let nsid = nsid_of(alloc, identifier)?;

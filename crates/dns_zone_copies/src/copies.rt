@@ -1,5 +1,7 @@
 //! The copies of all zones that a server is secondary of.
 
+ghost use Rattle.std.specs.Prelude.{◌≡◌};
+
 use crate::checking::Checking;
 use crate::secondary::Secondary;
 use dns_config::{Config, ZoneEntry};
@@ -124,12 +126,16 @@ impl Copies {
     }
 
     /// The zones.
-    pub fn as_slice(&self) -> &[Secondary] {
+    pub fn as_slice(&self) -> &[Secondary]
+        ensures { result.now ≡ self.now.secondaries.items }
+    {
         self.secondaries.as_slice()
     }
 
     /// The target of NOTIFY.
-    pub fn target(&self) -> &Arc<NotifyTarget> {
+    pub fn target(&self) -> &Arc<NotifyTarget>
+        ensures { result.now ≡ self.now.target }
+    {
         &self.target
     }
 
