@@ -54,8 +54,8 @@ impl Offer {
         tally: Tally,
     ) -> Result<Offer, OutOfMemory>
         ensures settings { IfOk result (λ o. o.settings ≡ settings.now) }
-        ensures service { IfOk result (λ o. o.service ≡ service.now) }
-        ensures target { IfOk result (λ o. o.target ≡ target.now) }
+        ensures service { IfOk result (λ o. arc_value o.service ≡ arc_value service.now) }
+        ensures target { IfOk result (λ o. arc_value o.target ≡ arc_value target.now) }
     {
         let service = Arc::try_clone(service)?;
         let target = Arc::try_clone(target)?;
