@@ -1,25 +1,9 @@
-//! Configurations that are read of files, and addresses as text.
+//! Configurations that are read of files.
 
 use anyhow::{Context, bail};
 use dns_config::{Config, read_config};
-use dns_name::{IpAddr, SocketAddr};
 use std::alloc::{AllocError, Global};
-use std::{fmt, fs};
-
-/// An address and a port as text, the address of IPv6 in brackets.
-#[derive(Clone, Copy)]
-pub(crate) struct Shown(pub(crate) SocketAddr);
-
-impl fmt::Display for Shown {
-    fn fmt<W: fmt::Write>(&self, f: &mut fmt::Formatter<W>) -> fmt::Result {
-        let ip = self.0.ip;
-        let port = self.0.port;
-        match ip {
-            IpAddr::V4(_) => write!(f, "{ip}:{port}"),
-            IpAddr::V6(_) => write!(f, "[{ip}]:{port}"),
-        }
-    }
-}
+use std::fs;
 
 /// The lines of a text in one.
 fn in_one_line(alloc: Global, text: &str) -> Result<String, AllocError> {

@@ -1,22 +1,16 @@
 //! Zones that are read of files.
 
-use crate::configuration::{Shown, load_config};
-use crate::secondary::Secondary;
+use crate::configuration::load_config;
 use anyhow::{Context, bail};
 use dns_config::{Config, ZoneEntry};
 use dns_generation::{Generation, ZoneSummary, networks};
+use dns_notifier::serial_of;
+use dns_socket_addr::SocketAddrText;
+use dns_zone_copies::Secondary;
 use log::warn;
 use std::alloc::{AllocError, Global};
 use std::fmt::Write;
 use std::fs;
-
-/// The serial of a zone.
-pub(crate) fn serial_of(summary: &ZoneSummary) -> Option<u32> {
-    match summary.timers {
-        Some(timers) => Some(timers.serial.into_int()),
-        None => None,
-    }
-}
 
 /// Reads and judges the zone of one file, and puts it behind the others.
 fn load_zone(
@@ -140,7 +134,7 @@ pub(crate) fn check(rt: &HostRuntime, path: &str) -> anyhow::Result<()> {
     let config = load_config(rt, path)?;
     let generation = load_generation(rt, &config, &[])?;
     for endpoint in config.listen.iter() {
-        println!(rt; "listen {}", Shown(endpoint.address))?;
+        println!(rt; "listen {}", SocketAddrText(endpoint.address))?;
     }
     let zones = report(rt.alloc(), &config, generation.summaries())?;
     print!(rt; "{zones}")?;

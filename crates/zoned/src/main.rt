@@ -4,10 +4,9 @@
 //!   the control socket.
 //! - `server` goes from generation to generation: it looks every 50 ms whether something is asked, and shuts the listeners
 //!   down where something else is to be served. `served` is what is served at a time.
-//! - `layers` puts the service together: the zones, in the layers of the settings, with server cookies, the server's identifier
-//!   and its own OPT record, 512 octets without EDNS, noted and counted. `listener`, `place` and `running` serve it at an address,
-//!   in threads. `counts` has what is counted, and logs the transfers.
-//! - `copies`, `secondary` and `check` keep the copies of zones that have a primary, `notifier` tells others of new serials.
+//!
+//! dns_listener serves at an address, dns_zone_copies keeps the copies of zones that have a primary, and dns_notifier tells
+//! others of new serials.
 //!
 //! ```text
 //! Server::open -> serve -> (a listener in a thread for each address) -> wait -> the next generation, or the end
@@ -29,24 +28,16 @@ ghost use Rattle.std.specs.Process.{exit_status};
 ghost use Rattle.clap.specs.Values.{kind_of};
 ghost use Rattle.clap.specs.declared.error.kind.ErrorKind.TheVariants.{DisplayHelp, DisplayVersion};
 
-mod check;
 mod configuration;
 mod control;
-mod copies;
-mod counts;
 mod ctl;
-mod layers;
-mod listener;
 mod load;
-mod notifier;
-mod place;
-mod running;
-mod secondary;
 mod served;
 mod server;
 mod words;
 
 use clap::ArgMatches;
+use log::Log;
 use std::env;
 use std::net::Net;
 use std::process::ExitCode;
@@ -56,11 +47,9 @@ use std::sync::Wait;
 use std::thread::Threads;
 
 /// Does what words without a mistake ask for.
-fn performed<R: Net + Files + Clock + RandomSource + Threads + Wait + Copy + Send + Sync + 'static>(
-    machine: R,
-    rt: &HostRuntime,
-    matches: &ArgMatches<'_>,
-) -> anyhow::Result<ExitCode>
+fn performed<
+    R: Net + Files + Clock + RandomSource + Threads + Wait + Log + Copy + Send + Sync + 'static,
+>(machine: R, rt: &HostRuntime, matches: &ArgMatches<'_>) -> anyhow::Result<ExitCode>
     ensures { IfOk result (λ status. exit_status status ≡ 0) }
 {
     match matches.subcommand() {
@@ -83,10 +72,9 @@ fn explained(rt: &HostRuntime, error: &clap::Error) -> anyhow::Result<ExitCode>
 }
 
 /// Reads the words and does what they ask for.
-fn answered<R: Net + Files + Clock + RandomSource + Threads + Wait + Copy + Send + Sync + 'static>(
-    machine: R,
-    rt: &HostRuntime,
-) -> anyhow::Result<ExitCode> {
+fn answered<
+    R: Net + Files + Clock + RandomSource + Threads + Wait + Log + Copy + Send + Sync + 'static,
+>(machine: R, rt: &HostRuntime) -> anyhow::Result<ExitCode> {
     let words: Vec<String> = env::args(rt)?.collect(rt.alloc())?;
     let command = words::command(rt.alloc())?;
     match command.try_get_matches_from(words.as_slice()) {

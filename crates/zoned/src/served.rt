@@ -2,12 +2,12 @@
 
 use crate::configuration::load_config;
 use crate::load::load_generation;
-use crate::secondary::Secondary;
 use dns_authority::Authority;
 use dns_config::Config;
 use dns_generation::ZoneSummary;
 use dns_middleware::Settings;
 use dns_secondary_service::Withholding;
+use dns_zone_copies::Secondary;
 use std::sync::Arc;
 
 /// The zones of a configuration that were read and judged: what answers over them, and what is said of each, in their order.

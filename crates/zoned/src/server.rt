@@ -1,17 +1,16 @@
 //! A server: generation after generation at the listeners.
 
-use crate::configuration::Shown;
 use crate::control::{Caller, Control, Order};
-use crate::copies::Copies;
-use crate::counts::Counters;
-use crate::listener::{Listener, bind_all, say_listeners};
 use crate::load::report;
-use crate::notifier::Notifier;
-use crate::running::{Offer, Running, close_all, has_ended, take_back};
 use crate::served::Served;
 use dns_config::Config;
+use dns_listener::{
+    Counters, Listener, Offer, Running, bind_all, close_all, has_ended, say_listeners, take_back,
+};
 use dns_name::OutOfMemory;
-use log::{error, info};
+use dns_notifier::Notifier;
+use dns_zone_copies::Copies;
+use log::{Log, error, info};
 use std::alloc::Global;
 use std::net::Net;
 use std::random::RandomSource;
@@ -235,10 +234,15 @@ impl Server {
 
     /// Looks at the copies and at those who were told of a serial. Where another copy came, or one went, the zones are read and
     /// judged again.
-    fn look<R: Net + Threads>(&mut self, machine: &R, rt: &HostRuntime) -> anyhow::Result<()> {
+    fn look<R: Net + Files + Threads + Log>(
+        &mut self,
+        machine: &R,
+        rt: &HostRuntime,
+    ) -> anyhow::Result<()> {
         let now = self.seconds(rt)?;
-        self.notifier.look(rt, now.saturating_mul(MILLIS))?;
-        if self.copies.look(machine, rt, now)? {
+        let alloc = rt.alloc();
+        self.notifier.look(rt, alloc, now.saturating_mul(MILLIS))?;
+        if self.copies.look(machine, alloc, now)? {
             let served = self.served.renewed(rt, self.copies.as_slice())?;
             self.go_on(rt, served)?;
         }
@@ -247,8 +251,8 @@ impl Server {
 
     /// Logs the transfers that were noted, and does what a caller asks, or what the copies lead to. What fails is logged, and what is
     /// served stays.
-    fn turn<R: Net + Threads + Wait>(&mut self, machine: &R, rt: &HostRuntime) {
-        self.counters.log_transfers(machine, rt);
+    fn turn<R: Net + Files + Threads + Wait + Log>(&mut self, machine: &R, rt: &HostRuntime) {
+        self.counters.log_transfers(machine);
         self.obey_next(rt);
         if self.phase != Phase::Serving {
             return;
@@ -259,7 +263,7 @@ impl Server {
     }
 
     /// Waits until another generation is to be served, or none, or a listener ends by itself. Then each listener is shut down.
-    fn wait<R: Net + Threads + Wait + Clock>(
+    fn wait<R: Net + Files + Threads + Wait + Clock + Log>(
         &mut self,
         machine: &R,
         rt: &HostRuntime,
@@ -281,15 +285,22 @@ impl Server {
     }
 
     /// Tells of the serials that are served. That this fails is logged.
-    fn tell<R: Net + RandomSource>(&mut self, machine: &R, rt: &HostRuntime) -> anyhow::Result<()> {
+    fn tell<R: Net + RandomSource + Log>(
+        &mut self,
+        machine: &R,
+        rt: &HostRuntime,
+    ) -> anyhow::Result<()> {
         let now = self.seconds(rt)?.saturating_mul(MILLIS);
-        self.notifier.tell_changes(machine, rt, &self.served, now)
+        let served = &self.served;
+        let summaries = served.zones.summaries.as_slice();
+        self.notifier
+            .tell_changes(machine, rt.alloc(), &served.config, summaries, now)
     }
 
     /// Serves a generation at these listeners, until another one is to be served, or none, or a listener ends by itself. Gives the
     /// listeners back.
     fn serve_generation<
-        R: Net + Clock + RandomSource + Threads + Wait + Copy + Send + Sync + 'static,
+        R: Net + Files + Clock + RandomSource + Threads + Wait + Log + Copy + Send + Sync + 'static,
     >(
         &mut self,
         machine: R,
@@ -303,15 +314,13 @@ impl Server {
         }
         let mut running = self.start(machine, rt.alloc(), listeners)?;
         self.wait(&machine, rt, running.as_mut_slice());
-        take_back(&machine, rt, running)
+        Ok(take_back(&machine, rt.alloc(), running)?)
     }
 
     /// Opens all sockets, and serves generation after generation until the server is stopped.
-    fn run<R: Net + Files + Clock + RandomSource + Threads + Wait + Copy + Send + Sync + 'static>(
-        &mut self,
-        machine: R,
-        rt: &HostRuntime,
-    ) -> anyhow::Result<()> {
+    fn run<
+        R: Net + Files + Clock + RandomSource + Threads + Wait + Log + Copy + Send + Sync + 'static,
+    >(&mut self, machine: R, rt: &HostRuntime) -> anyhow::Result<()> {
         let mut listeners = self.open(machine, rt)?;
         for _ in machine.forever() {
             listeners = self.serve_generation(machine, rt, listeners)?;
@@ -338,7 +347,7 @@ impl Server {
 
 /// Serves by a configuration until the server is stopped.
 pub(crate) fn serve<
-    R: Net + Files + Clock + RandomSource + Threads + Wait + Copy + Send + Sync + 'static,
+    R: Net + Files + Clock + RandomSource + Threads + Wait + Log + Copy + Send + Sync + 'static,
 >(machine: R, rt: &HostRuntime, path: &str) -> anyhow::Result<()> {
     let mut server = Server::new(rt, path)?;
     let outcome = server.run(machine, rt);

@@ -3,7 +3,6 @@
 ghost use Rattle.std.specs.Prelude.{◌≡◌, IfOk};
 ghost use Rattle.std.specs.Arc.{arc_value};
 
-use crate::configuration::Shown;
 use crate::layers::{Tally, serve_zones};
 use crate::listener::Listener;
 use crate::place::Place;
@@ -15,8 +14,9 @@ use dns_middleware::Settings;
 use dns_name::OutOfMemory;
 use dns_opt::Nsid;
 use dns_secondary_service::{NotifyTarget, Withholding};
+use dns_socket_addr::SocketAddrText;
 use dns_workers::HostEnd;
-use log::error;
+use log::{Log, error};
 use std::alloc::Global;
 use std::rt::Clock;
 use std::sync::{Arc, Wait};
@@ -24,7 +24,7 @@ use std::thread::{self, JoinHandle, Threads};
 
 /// What is served: the zones, by settings, with the target of NOTIFY, the identifier of the server, and what counts the replies.
 #[derive(Drop)]
-pub(crate) struct Offer {
+pub struct Offer {
     pub(crate) settings: Settings,
     pub(crate) service: Arc<Withholding<Authority>>,
     pub(crate) target: Arc<NotifyTarget>,
@@ -45,14 +45,18 @@ fn nsid_of(alloc: Global, identifier: &Option<Identifier>) -> Result<Option<Nsid
 
 impl Offer {
     /// An offer of these, which are shared.
-    pub(crate) fn new(
+    pub fn new(
         alloc: Global,
         settings: &Settings,
         service: &Arc<Withholding<Authority>>,
         target: &Arc<NotifyTarget>,
         identifier: &Option<Identifier>,
         tally: Tally,
-    ) -> Result<Offer, OutOfMemory> {
+    ) -> Result<Offer, OutOfMemory>
+        ensures settings { IfOk result (λ o. o.settings ≡ settings.now) }
+        ensures service { IfOk result (λ o. arc_value o.service ≡ arc_value service.now) }
+        ensures target { IfOk result (λ o. arc_value o.target ≡ arc_value target.now) }
+    {
         let service = Arc::try_clone(service)?;
         let target = Arc::try_clone(target)?;
         let nsid = nsid_of(alloc, identifier)?;
@@ -103,7 +107,7 @@ impl<R: Clock + Threads + Wait + Copy + Send + Sync + 'static> Post<R> {
 
 /// A listener that serves in a thread, which gives it back; and another seat at its book, from which it is shut down.
 #[derive(Drop)]
-pub(crate) struct Running<R> {
+pub struct Running<R> {
     thread: JoinHandle<(Listener<R>, HostEnd)>,
     book: Arc<Book>,
     seat: BookSeat,
@@ -132,16 +136,16 @@ fn place_at<R: Wait + Drop>(
 
 impl<R: Clock + Threads + Wait + Copy + Send + Sync + 'static> Running<R> {
     /// Starts a thread in which a listener serves.
-    pub(crate) fn start(
-        machine: R,
+    pub fn start(
+        rt: R,
         alloc: Global,
         listener: Listener<R>,
         offer: Offer,
     ) -> anyhow::Result<Running<R>> {
         let (book, seat) = open_book(alloc, &offer.settings)?;
-        let (place, seat) = place_at(&machine, listener, &book, seat)?;
+        let (place, seat) = place_at(&rt, listener, &book, seat)?;
         let post = Post { place, offer };
-        match thread::spawn(&machine, move || post.serve(machine, alloc)) {
+        match thread::spawn(&rt, move || post.serve(rt, alloc)) {
             Ok(thread) => Ok(Running { thread, book, seat }),
             Err(_) => bail!("a thread can't be started"),
         }
@@ -167,9 +171,9 @@ impl<R> Running<R> {
 }
 
 /// Whether a listener was shut down or has ended by itself.
-pub(crate) fn has_ended<R: Wait>(machine: &R, running: &mut [Running<R>]) -> bool {
+pub fn has_ended<R: Wait>(rt: &R, running: &mut [Running<R>]) -> bool {
     for one in running {
-        if one.is_closed(machine) {
+        if one.is_closed(rt) {
             return true;
         }
     }
@@ -177,23 +181,23 @@ pub(crate) fn has_ended<R: Wait>(machine: &R, running: &mut [Running<R>]) -> boo
 }
 
 /// Shuts each listener down.
-pub(crate) fn close_all<R: Wait>(machine: &R, running: &mut [Running<R>]) {
+pub fn close_all<R: Wait>(rt: &R, running: &mut [Running<R>]) {
     for one in running {
-        one.close(machine);
+        one.close(rt);
     }
 }
 
 /// Takes the listeners back, each once it has ended.
-pub(crate) fn take_back<R: Threads + Drop>(
-    machine: &R,
-    rt: &HostRuntime,
+pub fn take_back<R: Threads + Log + Drop>(
+    rt: &R,
+    alloc: Global,
     running: Vec<Running<R>>,
-) -> anyhow::Result<Vec<Listener<R>>> {
-    let mut listeners = Vec::new(rt.alloc());
+) -> Result<Vec<Listener<R>>, OutOfMemory> {
+    let mut listeners = Vec::new(alloc);
     for one in running {
-        let (listener, end) = one.join(machine);
+        let (listener, end) = one.join(rt);
         if end != HostEnd::Done {
-            error!(rt; "{}: an accept, a thread, a receive or a send failed", Shown(listener.address));
+            error!(rt; "{}: an accept, a thread, a receive or a send failed", SocketAddrText(listener.address));
         }
         listeners.push(listener)?;
     }

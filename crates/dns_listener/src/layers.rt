@@ -35,7 +35,7 @@ fn udp_size(settings: &Settings) -> u16
 
 /// What counts the replies and notes the transfers of a listener.
 #[derive(Drop)]
-pub(crate) struct Tally {
+pub struct Tally {
     pub(crate) counts: Arc<ReplyCounts>,
     pub(crate) notes: Arc<TransferNotes>,
 }

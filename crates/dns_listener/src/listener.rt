@@ -1,12 +1,12 @@
 //! Sockets that are listened at.
 
-use crate::configuration::Shown;
 use anyhow::Context;
 use dns_config::Config;
 use dns_name::{IpAddr, OutOfMemory, SocketAddr};
 use dns_outside::{HostClock, MioAccept, MioSock};
 use dns_query_link::QueryAccept;
 use dns_query_sock::{QueryCounts, QuerySock};
+use dns_socket_addr::SocketAddrText;
 use dns_workers::{Silent, Worker};
 use std::alloc::Global;
 use std::net::Net;
@@ -19,7 +19,7 @@ pub(crate) type DgramWorker<R> = Worker<QuerySock<MioSock>, HostClock<R>, Silent
 
 /// What the connections of one address come from, and what serve its datagrams. Responses are dropped.
 #[derive(Drop)]
-pub(crate) struct Listener<R> {
+pub struct Listener<R> {
     pub(crate) address: SocketAddr,
     pub(crate) accept: QueryAccept<MioAccept>,
     pub(crate) workers: Vec<DgramWorker<R>>,
@@ -27,13 +27,13 @@ pub(crate) struct Listener<R> {
 
 /// A worker that serves the datagrams of a socket.
 fn worker<R: Clock + Copy>(
-    machine: R,
+    rt: R,
     sock: MioSock,
     counts: &Arc<QueryCounts>,
 ) -> Result<DgramWorker<R>, OutOfMemory> {
     let counts = Arc::try_clone(counts)?;
     let sock = QuerySock::counted(sock, counts);
-    Ok(Worker::new(sock, HostClock::new(machine), Silent::new()))
+    Ok(Worker::new(sock, HostClock::new(rt), Silent::new()))
 }
 
 /// How many workers share an address: one where a socket takes datagrams over IPv4 and IPv6.
@@ -46,7 +46,7 @@ fn shared_by(address: SocketAddr, wanted: usize) -> usize {
 
 /// A socket of datagrams at an address, which others share where there are several.
 fn bind_sock<N: Net>(net: &N, address: SocketAddr, wanted: usize) -> anyhow::Result<MioSock> {
-    let shown = Shown(address);
+    let shown = SocketAddrText(address);
     let bound = if wanted > 1 {
         MioSock::bind_shared(net, address)
     } else {
@@ -57,7 +57,7 @@ fn bind_sock<N: Net>(net: &N, address: SocketAddr, wanted: usize) -> anyhow::Res
 
 /// The workers at an address, each with a socket of its own.
 fn bind_workers<R: Net + Clock + Copy>(
-    machine: R,
+    rt: R,
     alloc: Global,
     address: SocketAddr,
     wanted: usize,
@@ -65,15 +65,15 @@ fn bind_workers<R: Net + Clock + Copy>(
 ) -> anyhow::Result<Vec<DgramWorker<R>>> {
     let mut workers = Vec::new(alloc);
     for _ in 0..wanted {
-        let sock = bind_sock(&machine, address, wanted)?;
-        workers.push(worker(machine, sock, counts)?)?;
+        let sock = bind_sock(&rt, address, wanted)?;
+        workers.push(worker(rt, sock, counts)?)?;
     }
     Ok(workers)
 }
 
 /// The socket of connections at an address, and the address with the port that the system picked.
 fn bind_accept<N: Net>(net: &N, wanted: SocketAddr) -> anyhow::Result<(MioAccept, SocketAddr)> {
-    let shown = Shown(wanted);
+    let shown = SocketAddrText(wanted);
     let accept = MioAccept::bind(net, wanted).context(format_args!(
         "listening on {shown} over TCP"
     ))?;
@@ -86,15 +86,15 @@ impl<R: Net + Clock + Copy> Listener<R> {
     /// Opens the sockets of an address, the one of connections first, since it is refused where another server has the address. At
     /// port 0 the system picks the port of all.
     pub(crate) fn bind(
-        machine: R,
+        rt: R,
         alloc: Global,
         wanted: SocketAddr,
         workers: usize,
         counts: &Arc<QueryCounts>,
     ) -> anyhow::Result<Listener<R>> {
-        let (accept, address) = bind_accept(&machine, wanted)?;
+        let (accept, address) = bind_accept(&rt, wanted)?;
         let workers = shared_by(address, workers);
-        let workers = bind_workers(machine, alloc, address, workers, counts)?;
+        let workers = bind_workers(rt, alloc, address, workers, counts)?;
         let accept = QueryAccept::new(alloc, accept, Arc::try_clone(counts)?);
         Ok(Listener {
             address,
@@ -105,34 +105,34 @@ impl<R: Net + Clock + Copy> Listener<R> {
 }
 
 /// How many processors there are, as far as that is known.
-fn processors<R: Threads>(machine: &R) -> usize {
-    match available_parallelism(machine) {
+fn processors<R: Threads>(rt: &R) -> usize {
+    match available_parallelism(rt) {
         Ok(processors) => processors.get(),
         Err(_) => 1,
     }
 }
 
 /// Opens the sockets of each address.
-pub(crate) fn bind_all<R: Net + Clock + Threads + Copy>(
-    machine: R,
+pub fn bind_all<R: Net + Clock + Threads + Copy>(
+    rt: R,
     alloc: Global,
     config: &Config,
     counts: &Arc<QueryCounts>,
 ) -> anyhow::Result<Vec<Listener<R>>> {
-    let workers = config.workers(processors(&machine));
+    let workers = config.workers(processors(&rt));
     let mut listeners = Vec::new(alloc);
     for endpoint in config.listen.iter() {
         let address = endpoint.address;
-        let listener = Listener::bind(machine, alloc, address, workers, counts)?;
+        let listener = Listener::bind(rt, alloc, address, workers, counts)?;
         listeners.push(listener)?;
     }
     Ok(listeners)
 }
 
 /// Says where is listened.
-pub(crate) fn say_listeners<R>(rt: &HostRuntime, listeners: &[Listener<R>]) -> anyhow::Result<()> {
+pub fn say_listeners<P: Print, R>(rt: &P, listeners: &[Listener<R>]) -> anyhow::Result<()> {
     for listener in listeners {
-        println!(rt; "listening on {}", Shown(listener.address))?;
+        println!(rt; "listening on {}", SocketAddrText(listener.address))?;
     }
     Ok(())
 }

@@ -1,22 +1,18 @@
 //! The check of a secondary's copy: the primary is asked for its SOA record, and for the zone where that is newer.
 
+use crate::primary::{receive, send};
 use anyhow::bail;
-use dns_base::AdditionalBuilder;
 use dns_generation::Generation;
 use dns_incoming::{IncomingTransfer, TransferFault, TransferStatus};
 use dns_message::{Message, Record};
-use dns_name::{IpAddr, Name, SocketAddr};
+use dns_name::Name;
 use dns_secondary::{SoaTimers, ZoneCopy, soa_query, transfer_query};
 use dns_zone_file::write_zone;
 use std::alloc::Global;
 use std::io::{Read, Write};
-use std::net::{self, Net, TcpStream};
+use std::net::TcpStream;
 use std::sync::Arc;
 use std::sync::atomic::{AtomicBool, Ordering};
-use std::time::Duration;
-
-/// How long a connection, a read or a write may take.
-const STEP_SECONDS: u64 = 10;
 
 /// How many messages a transfer has at most.
 const MOST_MESSAGES: u64 = 10_000_000;
@@ -46,45 +42,6 @@ pub(crate) enum Checked {
     Current(SoaTimers),
     /// A newer zone came, as the text of a zone file.
     Came(SoaTimers, Vec<u8>),
-}
-
-/// An address as std has it.
-pub(crate) fn to_std(address: SocketAddr) -> net::SocketAddr {
-    let ip = match address.ip {
-        IpAddr::V4(octets) => net::IpAddr::V4(net::Ipv4Addr::from_octets(octets)),
-        IpAddr::V6(octets) => net::IpAddr::V6(net::Ipv6Addr::from_octets(octets)),
-    };
-    net::SocketAddr::new(ip, address.port)
-}
-
-/// Begins a connection to a primary. The first write waits for it.
-pub(crate) fn connect<N: Net>(net: &N, primary: SocketAddr) -> anyhow::Result<TcpStream> {
-    let step = Some(Duration::from_secs(STEP_SECONDS));
-    let stream = TcpStream::from(mio::net::TcpStream::connect(net, to_std(primary))?);
-    stream.set_nonblocking(false)?;
-    stream.set_read_timeout(step)?;
-    stream.set_write_timeout(step)?;
-    Ok(stream)
-}
-
-/// Sends a message.
-fn send<S: Write>(stream: &mut S, message: AdditionalBuilder) -> anyhow::Result<()> {
-    let target = message.finish();
-    stream.write_all(target.as_stream_slice())?;
-    Ok(())
-}
-
-/// Receives a message.
-fn receive<S: Read>(alloc: Global, stream: &mut S) -> anyhow::Result<Message> {
-    let mut length = [0u8; 2];
-    stream.read_exact(&mut length)?;
-    let count = u16::from_be_bytes(length) as usize;
-    let mut octets = vec![in alloc; 0u8; count]?;
-    stream.read_exact(octets.as_mut_slice())?;
-    match Message::from_octets(octets) {
-        Ok(message) => Ok(message),
-        Err(_) => bail!("a message is too short"),
-    }
 }
 
 /// Why what came is no transfer, in words.

@@ -1,20 +1,25 @@
-//! The copies of all zones that the server is secondary of.
+//! The copies of all zones that a server is secondary of.
 
-use crate::secondary::{Checking, Secondary};
+ghost use Rattle.std.specs.Prelude.{◌≡◌};
+
+use crate::checking::Checking;
+use crate::secondary::Secondary;
 use dns_config::{Config, ZoneEntry};
 use dns_generation::ZoneSummary;
 use dns_name::OutOfMemory;
 use dns_secondary_service::NotifyTarget;
+use log::Log;
 use std::alloc::{AllocError, Global};
 use std::mem;
 use std::net::Net;
+use std::rt::Files;
 use std::sync::Arc;
 use std::sync::atomic::{AtomicBool, Ordering};
 use std::thread::Threads;
 
 /// The zones that the server is secondary of, and what wakes their checks.
 #[derive(Drop)]
-pub(crate) struct Copies {
+pub struct Copies {
     secondaries: Vec<Secondary>,
     target: Arc<NotifyTarget>,
     /// Checks of zones that are no longer configured.
@@ -87,9 +92,9 @@ fn target_of(alloc: Global, secondaries: &[Secondary]) -> Result<Arc<NotifyTarge
 }
 
 /// Looks at each copy, those that were woken first of all. Whether another one, or none, is served from now on.
-fn look_at_all<R: Net + Threads>(
-    machine: &R,
-    rt: &HostRuntime,
+fn look_at_all<R: Net + Files + Log + Threads>(
+    rt: &R,
+    alloc: Global,
     secondaries: &mut [Secondary],
     target: &NotifyTarget,
     stop: &Arc<AtomicBool>,
@@ -100,7 +105,7 @@ fn look_at_all<R: Net + Threads>(
         if target.take_woken(index) {
             secondary.wake(rt);
         }
-        if secondary.look(machine, rt, stop, now) {
+        if secondary.look(rt, alloc, stop, now) {
             changed = true;
         }
     }
@@ -109,7 +114,7 @@ fn look_at_all<R: Net + Threads>(
 
 impl Copies {
     /// No copy yet.
-    pub(crate) fn new(alloc: Global) -> Result<Copies, OutOfMemory> {
+    pub fn new(alloc: Global) -> Result<Copies, OutOfMemory> {
         let target = target_of(alloc, &[])?;
         let stop = Arc::new(alloc, AtomicBool::new(false))?;
         Ok(Copies {
@@ -121,12 +126,16 @@ impl Copies {
     }
 
     /// The zones.
-    pub(crate) fn as_slice(&self) -> &[Secondary] {
+    pub fn as_slice(&self) -> &[Secondary]
+        ensures { result.now ≡ self.now.secondaries.items }
+    {
         self.secondaries.as_slice()
     }
 
     /// The target of NOTIFY.
-    pub(crate) fn target(&self) -> &Arc<NotifyTarget> {
+    pub fn target(&self) -> &Arc<NotifyTarget>
+        ensures { result.now ≡ self.now.target }
+    {
         &self.target
     }
 
@@ -142,7 +151,7 @@ impl Copies {
 
     /// Goes on to the zones of a configuration with these summaries. A zone that was there before with its primary keeps what is
     /// known of its copy.
-    pub(crate) fn follow(
+    pub fn follow(
         &mut self,
         alloc: Global,
         config: &Config,
@@ -156,15 +165,11 @@ impl Copies {
     }
 
     /// Ends the checks of zones that are no longer configured, where they are done.
-    fn look_at_leaving<R: Threads>(
-        &mut self,
-        machine: &R,
-        alloc: Global,
-    ) -> Result<(), OutOfMemory> {
+    fn look_at_leaving<R: Threads>(&mut self, rt: &R, alloc: Global) -> Result<(), OutOfMemory> {
         let leaving = mem::replace(&mut self.leaving, Vec::new(alloc));
         for checking in leaving {
             if checking.has_ended() {
-                let _ = checking.join(machine);
+                let _ = checking.join(rt);
             } else {
                 self.leaving.push(checking)?;
             }
@@ -173,19 +178,19 @@ impl Copies {
     }
 
     /// Looks at each copy. Whether another one, or none, is served from now on.
-    pub(crate) fn look<R: Net + Threads>(
+    pub fn look<R: Net + Files + Log + Threads>(
         &mut self,
-        machine: &R,
-        rt: &HostRuntime,
+        rt: &R,
+        alloc: Global,
         now: u64,
     ) -> Result<bool, OutOfMemory> {
-        self.look_at_leaving(machine, rt.alloc())?;
+        self.look_at_leaving(rt, alloc)?;
         let secondaries = self.secondaries.as_mut_slice();
-        Ok(look_at_all(machine, rt, secondaries, &self.target, &self.stop, now))
+        Ok(look_at_all(rt, alloc, secondaries, &self.target, &self.stop, now))
     }
 
     /// What is said of each copy.
-    pub(crate) fn report(&self, alloc: Global) -> Result<String, AllocError> {
+    pub fn report(&self, alloc: Global) -> Result<String, AllocError> {
         let mut text = String::new(alloc);
         for secondary in self.secondaries.iter() {
             secondary.push_line(&mut text)?;
@@ -193,8 +198,8 @@ impl Copies {
         Ok(text)
     }
 
-    /// Ends all checks.
-    pub(crate) fn end<R: Threads>(self, machine: &R) {
+    /// Ends all checks, each of which is waited for.
+    pub fn end<R: Threads>(self, rt: &R) {
         let Copies {
             secondaries,
             leaving,
@@ -202,18 +207,18 @@ impl Copies {
             ..
         } = self;
         stop.store(true, Ordering::SeqCst);
-        join_all(machine, leaving);
+        join_all(rt, leaving);
         for secondary in secondaries {
             if let Some(checking) = secondary.into_checking() {
-                let _ = checking.join(machine);
+                let _ = checking.join(rt);
             }
         }
     }
 }
 
 /// Waits for the end of some checks.
-fn join_all<R: Threads>(machine: &R, checks: Vec<Checking>) {
+fn join_all<R: Threads>(rt: &R, checks: Vec<Checking>) {
     for checking in checks {
-        let _ = checking.join(machine);
+        let _ = checking.join(rt);
     }
 }

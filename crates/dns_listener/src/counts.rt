@@ -1,13 +1,13 @@
 //! What is counted while the server runs, and its lines.
 
-use crate::configuration::Shown;
 use crate::layers::Tally;
 use dns_base::Rcode;
 use dns_name::OutOfMemory;
 use dns_query_sock::QueryCounts;
 use dns_reply_counts::ReplyCounts;
+use dns_socket_addr::SocketAddrText;
 use dns_transfer_notes::{TransferNews, TransferNote, TransferNotes};
-use log::{info, warn};
+use log::{Log, info, warn};
 use std::alloc::{AllocError, Global};
 use std::fmt::Write;
 use std::sync::{Arc, Wait};
@@ -17,7 +17,7 @@ const MOST_NOTES: usize = 256;
 
 /// What counts replies, connections, dropped responses and transfers, at all listeners.
 #[derive(Drop)]
-pub(crate) struct Counters {
+pub struct Counters {
     replies: Arc<ReplyCounts>,
     queries: Arc<QueryCounts>,
     notes: Arc<TransferNotes>,
@@ -53,8 +53,8 @@ fn push_replies(text: &mut String, counts: &ReplyCounts) -> Result<(), AllocErro
 }
 
 /// Logs what became of a question for a transfer.
-fn log_note(rt: &HostRuntime, note: &TransferNote) {
-    let client = Shown(note.client);
+fn log_note<R: Log>(rt: &R, note: &TransferNote) {
+    let client = SocketAddrText(note.client);
     match note.news {
         TransferNews::Begun => info!(rt; "{}: a transfer to {client} begins", note.apex),
         TransferNews::Ended => info!(rt; "{}: a transfer to {client} has ended", note.apex),
@@ -66,7 +66,7 @@ fn log_note(rt: &HostRuntime, note: &TransferNote) {
 
 impl Counters {
     /// Nothing was counted yet.
-    pub(crate) fn new(alloc: Global) -> Result<Counters, OutOfMemory> {
+    pub fn new(alloc: Global) -> Result<Counters, OutOfMemory> {
         Ok(Counters {
             replies: Arc::new(alloc, ReplyCounts::new(alloc)?)?,
             queries: Arc::new(alloc, QueryCounts::new())?,
@@ -75,12 +75,12 @@ impl Counters {
     }
 
     /// What counts at the sockets.
-    pub(crate) fn queries(&self) -> &Arc<QueryCounts> {
+    pub fn queries(&self) -> &Arc<QueryCounts> {
         &self.queries
     }
 
     /// What counts the replies of a listener.
-    pub(crate) fn tally(&self) -> Result<Tally, OutOfMemory> {
+    pub fn tally(&self) -> Result<Tally, OutOfMemory> {
         Ok(Tally {
             counts: Arc::try_clone(&self.replies)?,
             notes: Arc::try_clone(&self.notes)?,
@@ -88,9 +88,9 @@ impl Counters {
     }
 
     /// Logs the transfers that were noted since.
-    pub(crate) fn log_transfers<R: Wait>(&self, machine: &R, rt: &HostRuntime) {
+    pub fn log_transfers<R: Wait + Log>(&self, rt: &R) {
         for _ in 0..MOST_NOTES {
-            match self.notes.next(machine) {
+            match self.notes.next(rt) {
                 Some(note) => log_note(rt, &note),
                 None => return,
             }
@@ -98,7 +98,7 @@ impl Counters {
     }
 
     /// A line for each count.
-    pub(crate) fn report(&self, alloc: Global) -> Result<String, AllocError> {
+    pub fn report(&self, alloc: Global) -> Result<String, AllocError> {
         let mut text = String::new(alloc);
         push_replies(&mut text, &self.replies)?;
         let connections = self.queries.connections();

@@ -1,0 +1,36 @@
+//! What serves zones at an address: the sockets, the service in its layers, and the threads.
+//!
+//! - `Listener` has the sockets of an address: one for connections, and one for datagrams for each worker. `bind_all` opens
+//!   those of a configuration, and `say_listeners` says where is listened.
+//! - `Offer` is what is served: the zones, by settings, with the target of NOTIFY and the identifier of the server.
+//! - `Running` is a listener that serves an offer in a thread. `has_ended` says whether one has ended by itself, `close_all`
+//!   shuts them down, and `take_back` gives the listeners back, whose sockets stay open for what is served next.
+//! - `Counters` are what is counted at all listeners. `log_transfers` logs what was noted of transfers.
+//!
+//! ```text
+//! bind_all -> Running::start for each -> close_all -> take_back -> Running::start ..
+//! ```
+//!
+//! The layers stand so, from outside: counts; notes of transfers; at most 512 octets over UDP without EDNS; the server's own OPT
+//! record; its identifier; server cookies; the four layers of dns_middleware; zones without data; the authority.
+//!
+//! # What is proved
+//!
+//! - Each function is safe, and returns but for those that wait. What each layer makes of replies is proved in its crate.
+//! - How many octets the server takes over UDP is what the settings say, and else 1,232.
+//!
+//! # What a body could still get away with
+//!
+//! That the layers stand in this order is code (`layers.rt`), and no clause. No clause says what sockets and threads give.
+#![tactic(auto)]
+
+mod counts;
+mod layers;
+mod listener;
+mod place;
+mod running;
+
+pub use counts::Counters;
+pub use layers::Tally;
+pub use listener::{Listener, bind_all, say_listeners};
+pub use running::{Offer, Running, close_all, has_ended, take_back};

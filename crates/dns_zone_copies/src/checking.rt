@@ -1,0 +1,42 @@
+//! A check in a thread of its own.
+
+use crate::check::{Check, Checked, run};
+use std::alloc::Global;
+use std::sync::Arc;
+use std::sync::atomic::{AtomicBool, Ordering};
+use std::thread::{self, JoinHandle, Threads};
+
+/// A check that is going on in a thread of its own.
+#[derive(Drop)]
+pub(crate) struct Checking {
+    thread: JoinHandle<Result<Checked, String>>,
+    ended: Arc<AtomicBool>,
+}
+
+impl Checking {
+    /// Starts a check.
+    pub(crate) fn start<R: Threads>(
+        rt: &R,
+        alloc: Global,
+        check: Check,
+    ) -> anyhow::Result<Checking> {
+        let ended = Arc::new(alloc, AtomicBool::new(false))?;
+        let theirs = Arc::try_clone(&ended)?;
+        let thread = thread::spawn(rt, move || {
+            let checked = run(alloc, check);
+            theirs.store(true, Ordering::SeqCst);
+            checked
+        })?;
+        Ok(Checking { thread, ended })
+    }
+
+    /// Whether it has ended.
+    pub(crate) fn has_ended(&self) -> bool {
+        self.ended.load(Ordering::SeqCst)
+    }
+
+    /// What came of it, which is waited for.
+    pub(crate) fn join<R: Threads>(self, rt: &R) -> Result<Checked, String> {
+        self.thread.join(rt)
+    }
+}
