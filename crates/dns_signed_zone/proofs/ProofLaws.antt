@@ -1,33 +1,30 @@
 -- The NSECs that are chosen are accepted.
-use Rattle.std.proofs.Common.{◌≡◌, ℕ, zero, suc, ◌+◌, ◌<◌, Bool, true, false, List, [], ◌∷◌, ◌++◌, length, drop, get_or, Option, Some, None, nat_eq, refl, ap, sym, subst, ◌∙◌, arith, inl, inr}
-use Rattle.std.specs.Prelude.{◌&&◌, ◌⊎◌}
-use Rattle.std.specs.List.{Contains, list_any, slice_get}
-use Rattle.std.proofs.lemmas.Bool.{true≢false, and_parts, cases_Bool}
+use Rattle.std.proofs.Common.{◌≡◌, ℕ, zero, suc, ◌+◌, ◌<◌, true, false, List, [], ◌∷◌, ◌++◌, length, drop, get_or, Option, Some, None, refl, ap, sym, subst, ◌∙◌, arith, inl, inr}
+use Rattle.std.specs.Prelude.{◌⊎◌}
+use Rattle.std.specs.List.{Contains, slice_get}
+use Rattle.std.proofs.lemmas.Bool.{true≢false, cases_Bool}
 use Rattle.std.proofs.lemmas.List.Elements.{filter_map-append}
 use Rattle.dns_message.specs.declared.record.Record.{Record}
-use Rattle.dns_name.specs.Canonical.{same_name}
 use Rattle.dns_route.specs.Routes.{ends_name}
 use Rattle.dns_zone.specs.Cuts.{is_cut_off}
-use Rattle.dns_zone.specs.Owned.{ZoneState}
 use Rattle.dns_zone.specs.Places.{at_places}
 use Rattle.dns_zone.specs.ZoneReply.{exists}
 use Rattle.dns_zone_tree.specs.Kinds.{places_of}
-use Rattle.dns_zone_tree.specs.Regions.{Region, Within, BelowCut, BelowDname, asked_region}
+use Rattle.dns_zone_tree.specs.Regions.{Within, BelowCut, BelowDname, asked_region}
 use Rattle.dns_zone_tree.specs.declared.kinds.TypedPlace.{TypedPlace}
 use Rattle.dns_zone_tree.proofs.KindLaws.{places_ahead}
-use Rattle.dns_denial.specs.Accepted.{HasWildcards, is_accepted, is_accepted_by, servers_owner, sought, sought_by}
+use Rattle.dns_denial.specs.Accepted.{is_accepted_by, servers_owner, sought, sought_by}
 use Rattle.dns_denial.specs.Chains.{IsWhole}
-use Rattle.dns_denial.specs.Denials.{AllBehind, CanBeDenied, HasNoZone, IsAnswered, IsLast}
+use Rattle.dns_denial.specs.Denials.{IsLast}
 use Rattle.dns_denial.specs.Nsecs.{NsecState}
 use Rattle.dns_denial.specs.Validation.{shown_wildcard}
 use Rattle.dns_denial.proofs.AcceptedLaws.{each_absence, there}
 use Rattle.dns_denial.proofs.DenialLaws.{some_last}
-use Rattle.dns_denial.proofs.NameLaws.{same_ends}
 use Rattle.dns_denial.proofs.ListLaws.{present}
 use Rattle.dns_denial.proofs.NameLaws.{ends_itself}
-use Rattle.dns_denial.proofs.RegionLaws.{AtCut, asked_cut, reached}
+use Rattle.dns_denial.proofs.RegionLaws.{asked_cut, reached}
 use Rattle.dns_denial.proofs.StartLaws.{starts, within_all}
-use Rattle.dns_signed_zone.specs.SignedZones.{AreAccepted, AreOfZone, IsAlone, ArePair, Proves, SignedState, head_of, one_of, proved_by}
+use Rattle.dns_signed_zone.specs.SignedZones.{IsAlone, ArePair, Proves, SignedState, head_of, proved_by}
 
 -- ---- the first record at places
 

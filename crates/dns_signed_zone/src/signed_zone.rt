@@ -9,12 +9,16 @@ ghost use Rattle.dns_zone_tree.specs.TreeErrors.{tree_error};
 ghost use Rattle.dns_denial.specs.Accepted.{servers_owner};
 ghost use Rattle.dns_denial.specs.Chains.{IsWhole};
 ghost use Rattle.dns_denial.specs.Checks.{Breaks};
+ghost use Rattle.dns_zone.specs.Owned.{AreLawful};
+ghost use Rattle.dns_signed_zone.specs.MadeZones.{IsMadeOf, Refuses};
 ghost use Rattle.dns_signed_zone.specs.SignedZones.{IsOne, IsTwo, Proves, head_of, proofs_in, servers_at};
 
 use crate::reply_proofs::Proofs;
+use crate::signed_zone_error::SignedZoneError;
 use dns_base::Record;
 use dns_denial::{Chain, ChainError};
-use dns_name::{NameRef, OutOfMemory};
+use dns_name::{Name, NameRef, OutOfMemory};
+use dns_nsec_data::chain_in;
 use dns_route::matches_are_suffixes;
 use dns_zone_tree::{Kinds, TypedPlace, Walk, ZoneTree};
 use std::alloc::Global;
@@ -125,7 +129,37 @@ fn proofs_of<'a>(
     }
 }
 
+/// A zone with the chain of its NSEC records.
+fn chained(alloc: Global, zone: ZoneTree) -> Result<SignedZone, SignedZoneError>
+    requires { tree_error zone.apex zone.records ≡ None }
+    ensures { MatchResult result (IsMadeOf zone) (Refuses zone) }
+{
+    match chain_in(alloc, zone.records()) {
+        Ok(chain) => match SignedZone::new(alloc, zone, chain) {
+            Ok(signed) => Ok(signed),
+            Err(error) => Err(SignedZoneError::Chain(error)),
+        },
+        Err(error) => Err(SignedZoneError::Nsec(error)),
+    }
+}
+
 impl SignedZone {
+    /// The zone that begins at an apex and has these records, with the chain of its NSEC records. Refused for the first of the
+    /// causes in the order of `SignedZoneError`.
+    pub fn of(
+        alloc: Global,
+        apex: Name,
+        records: Vec<Record>,
+    ) -> Result<SignedZone, SignedZoneError>
+        requires { AreLawful records.items }
+        ensures { MatchResult result (IsMadeOf (record { apex = apex; records = records.items })) (Refuses (record { apex = apex; records = records.items })) }
+    {
+        match ZoneTree::new(alloc, apex, records) {
+            Ok(zone) => chained(alloc, zone),
+            Err(error) => Err(SignedZoneError::Tree(error)),
+        }
+    }
+
     /// The zone with its chain. Refused where the chain isn't whole.
     pub fn new(alloc: Global, zone: ZoneTree, chain: Chain) -> Result<SignedZone, ChainError>
         requires { tree_error zone.apex zone.records ≡ None }

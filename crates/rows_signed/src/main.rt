@@ -2,11 +2,15 @@
 //!
 //! - `nsec_hash` hashes a name with a salt and so many iterations (RFC 5155, section 5).
 //! - `signed` makes a zone of an apex, records and NSECs (an owner, a next name and types, parted by `:`, `+` and commas), and
-//!   says the owners of those that deny what is asked for: names and types.
+//!   says the owners of those that deny what is asked for: names and types. `secured` does so with the NSECs that are among the
+//!   records.
+//! - `types` reads type bit maps (RFC 4034, section 4.1.2).
 //!
 //! The program prints each row that doesn't hold, and how many there were.
 #![tactic(auto)]
 
+mod nsec_rows;
+mod questions;
 mod signed;
 mod zones;
 

@@ -3,10 +3,12 @@
 ghost use Rattle.std.specs.Prelude.{◌≡◌, None};
 ghost use Rattle.dns_zone_tree.specs.TreeErrors.{tree_error};
 
+use crate::nsec_rows::{secured, types_of_row};
+use crate::questions::asked;
 use crate::zones::next_records;
 use dns_denial::{Chain, Hashing, Nsec};
 use dns_name::{Name, NameRef};
-use dns_signed_zone::{Proofs, SignedZone};
+use dns_signed_zone::SignedZone;
 use dns_zone_tree::ZoneTree;
 use rows_table::{Calls, Row, RowError};
 
@@ -17,7 +19,9 @@ impl Calls for Signed {
     fn answer(&self, call: &str, row: &mut Row<'_>) -> Result<(), RowError> {
         match call {
             "nsec_hash" => hashed(row),
+            "secured" => secured(row),
             "signed" => zone_of_row(row),
+            "types" => types_of_row(row),
             _ => return Err(RowError::NoSuchCall),
         }
         Ok(())
@@ -105,38 +109,4 @@ fn types_of(row: &mut Row<'_>, word: &str) -> Vec<u16> {
         row.keep(types.push(rtype));
     }
     types
-}
-
-/// How many questions the next word says, and what denies each: a name and a type.
-fn asked(row: &mut Row<'_>, zone: &SignedZone) {
-    let questions: u8 = row.number();
-    for _ in 0..questions {
-        let name = row.name();
-        let rtype = row.number();
-        denied(row, zone, &name, rtype);
-    }
-}
-
-/// What denies a name or a type at it.
-fn denied(row: &mut Row<'_>, zone: &SignedZone, name: &NameRef<'_>, rtype: u16) {
-    if !zone.is_in_zone(name) {
-        row.say("outside");
-        return;
-    }
-    match zone.proofs(row.alloc(), name, rtype) {
-        Ok(proofs) => proofs_said(row, &proofs),
-        Err(_) => row.fail(RowError::OutOfMemory),
-    }
-}
-
-/// The owners of NSECs.
-fn proofs_said(row: &mut Row<'_>, proofs: &Proofs<'_>) {
-    match proofs.first {
-        Some(nsec) => row.hexadecimal(nsec.owner().as_slice()),
-        None => row.say("-"),
-    }
-    match proofs.second {
-        Some(nsec) => row.hexadecimal(nsec.owner().as_slice()),
-        None => row.say("-"),
-    }
 }
