@@ -104,7 +104,8 @@ impl HashedChain {
         hashing: &Hashing,
         name: &NameRef<'_>,
     ) -> Result<Option<HashedDenial<'_>>, OutOfMemory>
-        ensures chosen { IfOk result (λ d. MatchOption d (HasNoZone3 hashing.now self.now name.now) (Denies hashing.now self.now name.now)) }
+        ensures chosen { IfOk result (λ d. MatchOption d (HasNoZone3 hashing.now self.now name.now)
+            (Denies hashing.now self.now name.now)) }
         ensures each { IfOk result (λ d. IfSome d (IsDenialOf hashing.now self.now name.now)) }
     {
         let nsecs = self.nsecs();

@@ -35,4 +35,4 @@ returns-clause-each c =
     let n = subst (λ (x : List (List ℕ)). IsNear h c.nsecs-nsecs.result.now x w) (c.for_ref.ensures.value ∙ (b ∙ ap (λ (x : List (List ℕ)). star ∷ x) k.is)) c.in_ok-wild-in-Some-2.ensures.nsec in
     let e : is_matched h c.nsecs-nsecs.result.now name ≡ false = sym c.in_ok-own.ensures.matched ∙ c.if-own.false in
     subst (λ (xs : List Nsec3State). (is_matched h xs name ≡ false) × IsNear h xs (provable h xs name) found.encloser.now × IsNear h xs (closer h xs name) found.next.now × IsNear h xs (star ∷ provable h xs name) w)
-        c.nsecs-nsecs.ensures.value (e, k.near, k.next_near, n)
+    c.nsecs-nsecs.ensures.value (e, k.near, k.next_near, n)
