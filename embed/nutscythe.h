@@ -461,7 +461,8 @@ static inline uint32_t nutscythe_connection_written(nutscythe_connection *connec
     return nutscythe_raw_connection_written(connection, connection != NULL, at, took);
 }
 
-/* The moment in ms at which the connection was idle for too long: call nutscythe_connection_tick then.
+/* The moment in ms at which the connection was idle for too long: call nutscythe_connection_tick then. It may be past while a
+ * request is in a transaction, and tick says DONE: don't wait for it meanwhile.
  * gives: DONE, and *deadline.
  * refuses: NO_HANDLE, NULL_POINTER. */
 static inline uint32_t nutscythe_connection_deadline(nutscythe_connection *connection, uint64_t now, uint64_t *deadline)

@@ -89,3 +89,10 @@ IsClosest h ns name c = AreClosest h ns name c.encloser.now c.next.now c.above
 -- a denial of the NSEC3s that are chosen for a name
 abbrev pub Denies : Hashing → List Nsec3State → List (List ℕ) → HashedDenial → Type 0
 Denies h ns name d = AreChosen h ns (denied_by d) name
+
+-- which NSEC3 of a denial is which: the name's own; or, where it has none, those of the closest provable encloser, of the next closer name
+-- and of the wildcard (RFC 5155, sections 7.2.1 to 7.2.7)
+abbrev pub IsDenialOf : Hashing → List Nsec3State → List (List ℕ) → HashedDenial → Type 0
+IsDenialOf h ns name (Own n) = (is_matched h ns name ≡ true) × IsNear h ns name n.now
+IsDenialOf h ns name (Missing a b w) = (is_matched h ns name ≡ false) × IsNear h ns (provable h ns name) a.now
+    × IsNear h ns (closer h ns name) b.now × IsNear h ns (star ∷ provable h ns name) w.now

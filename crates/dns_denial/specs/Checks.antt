@@ -71,9 +71,10 @@ abbrev pub AreLinked : List (List ℕ) → List NsecState → ℕ → Type 0
 AreLinked apex ns high = (k : ℕ) (d : NsecState) → k < high → k < length ns
     → same_name (slice_index_or ns k d).next (owner_behind apex ns k d) ≡ true
 
--- one that doesn't
+-- the first that doesn't
 pub record IsUnlinked (apex : List (List ℕ)) (ns : List NsecState) (k : ℕ) : Type 0 where
   pub within : k < length ns
+  pub first : AreLinked apex ns k
   pub apart : (d : NsecState) → same_name (slice_index_or ns k d).next (owner_behind apex ns k d) ≡ false
 
 -- no NSEC is unfounded, and each points to the next

@@ -1,8 +1,8 @@
 //! The NSEC3s that are chosen for a denial (RFC 5155, section 7.2).
 
-ghost use Rattle.std.specs.Prelude.{◌≡◌, ◌<◌, ◌≤◌, ◌∷◌, length, false, IfOk, MatchOption};
+ghost use Rattle.std.specs.Prelude.{◌≡◌, ◌<◌, ◌≤◌, ◌∷◌, length, false, IfOk, IfSome, MatchOption};
 ghost use Rattle.dns_name.specs.Labels.{spell};
-ghost use Rattle.dns_denial.specs.Accepted3.{Denies, HasNoZone3, IsClosest};
+ghost use Rattle.dns_denial.specs.Accepted3.{Denies, HasNoZone3, IsClosest, IsDenialOf};
 ghost use Rattle.dns_denial.specs.Hashes.{AreSorted3};
 ghost use Rattle.dns_denial.specs.Nsec3.{IsNear, is_matched};
 
@@ -104,7 +104,9 @@ impl HashedChain {
         hashing: &Hashing,
         name: &NameRef<'_>,
     ) -> Result<Option<HashedDenial<'_>>, OutOfMemory>
-        ensures { IfOk result (λ d. MatchOption d (HasNoZone3 hashing.now self.now name.now) (Denies hashing.now self.now name.now)) }
+        ensures chosen { IfOk result (λ d. MatchOption d (HasNoZone3 hashing.now self.now name.now)
+            (Denies hashing.now self.now name.now)) }
+        ensures each { IfOk result (λ d. IfSome d (IsDenialOf hashing.now self.now name.now)) }
     {
         let nsecs = self.nsecs();
         if nsecs.is_empty() {

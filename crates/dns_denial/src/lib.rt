@@ -29,7 +29,9 @@
 //!   looked for are apart and the chain has a proof at all (`IsProvable`: a span with Opt-Out may leave out empty
 //!   non-terminals).
 //! - `check` gives Ok exactly for a chain that is whole. Its error is the first record that no NSEC lists, the first NSEC
-//!   that is unfounded, or one that points elsewhere, and a whole chain breaks nowhere (`whole_chains_break_nowhere`).
+//!   that is unfounded, or the first that points elsewhere, and a whole chain breaks nowhere
+//!   (`whole_chains_break_nowhere`).
+//! - The NSEC3s of a `HashedDenial` are those of the names that its fields say (`each`).
 //! - `hash` is that of RFC 5155, section 5, over the SHA-1 of FIPS 180-4.
 //!
 //! # What a body could still get away with
@@ -38,9 +40,7 @@
 //! record and once for each NSEC, and each walk passes over the places of the names on its way. Names below a DNAME
 //! record, of which a zone has none (RFC 6672, section 2.4), are looked for among all records.
 //!
-//! More NSEC3s of the chain than a denial needs, and which of the three of `HashedDenial::Missing` is which: the clause
-//! says only that all that are needed are among them. `signed_reply` (`specs/Signed.antt`) is a definition that no
-//! function carries out yet.
+//! `signed_reply` (`specs/Signed.antt`) is a definition that no function carries out yet.
 #![tactic(auto)]
 
 mod chain;

@@ -261,7 +261,7 @@ impl Connection {
         Written::Frame
     }
 
-    /// The moment in ms at which it was idle for too long.
+    /// The moment in ms at which it was idle for too long. While a request is in a transaction it may be past, and `is_idle` says no.
     pub fn deadline(&self, now: u64) -> u64
         ensures { result ≡ deadline self.now.timer self.now.invoker.idle_timeout now }
     {

@@ -75,12 +75,12 @@ AddedAs (Err NoPushMemory) result = result ≡ Err OutOfMemory
 abbrev pub SameReply : ReplyBuilder → ReplyBuilder → Type 0
 SameReply b c = (stage_of c ≡ stage_of b) × (built_of c ≡ built_of b)
 
--- a record stands last in its section; Order exactly if another section was begun last, TooLong exactly above the limit
+-- a record stands last in its section; Order exactly if another section was begun last, else TooLong exactly above the limit
 abbrev pub PushesAt : Section → ResourceRecord → ReplyBuilder → ReplyBuilder → Result (Unit {0}) AddError → Type 0
 PushesAt section r b c (Ok u) =
     (stage_of b ≡ place_of section) × (stage_of c ≡ stage_of b) × (built_of c ≡ with_record section (built_of b) r)
 PushesAt section r b c (Err Order) = ((stage_of b ≡ place_of section) → ⊥) × (c ≡ b)
-PushesAt section r b c (Err TooLong) = SameReply b c × PassesLimit (with_record section (built_of b) r)
+PushesAt section r b c (Err TooLong) = (stage_of b ≡ place_of section) × SameReply b c × PassesLimit (with_record section (built_of b) r)
 PushesAt section r b c (Err OutOfMemory) = SameReply b c
 PushesAt section r b c (Err Unreadable) = ⊥
 
@@ -91,7 +91,7 @@ AddsBuilt section o b stage c (Ok u) =
 AddsBuilt section o b stage c (Err Unreadable) = (e : ParseError) × (record_alone o ≡ Err e) × (c ≡ b)
 AddsBuilt section o b stage c (Err Order) = (r : ResourceRecord) × (record_alone o ≡ Ok r) × ((stage ≡ place_of section) → ⊥) × (c ≡ b)
 AddsBuilt section o b stage c (Err TooLong) =
-    (r : ResourceRecord) × (record_alone o ≡ Ok r) × PassesLimit (with_record section b r) × (c ≡ b)
+    (r : ResourceRecord) × (record_alone o ≡ Ok r) × (stage ≡ place_of section) × PassesLimit (with_record section b r) × (c ≡ b)
 AddsBuilt section o b stage c (Err OutOfMemory) = c ≡ b
 
 abbrev pub Adds : Section → List ℕ → ReplyBuilder → ReplyBuilder → Result (Unit {0}) AddError → Type 0
@@ -111,7 +111,7 @@ abbrev pub AddsRecord : Section → ResourceRecord → Built → ℕ → Built �
 AddsRecord section r b stage c (Ok u) = (stage ≡ place_of section) × (c ≡ with_record section b r)
 AddsRecord section r b stage c (Err Unreadable) = ⊥
 AddsRecord section r b stage c (Err Order) = ((stage ≡ place_of section) → ⊥) × (c ≡ b)
-AddsRecord section r b stage c (Err TooLong) = PassesLimit (with_record section b r) × (c ≡ b)
+AddsRecord section r b stage c (Err TooLong) = (stage ≡ place_of section) × PassesLimit (with_record section b r) × (c ≡ b)
 AddsRecord section r b stage c (Err OutOfMemory) = c ≡ b
 
 -- an option more: TooLong exactly if the option list would pass 65,535 octets, or the message its limit

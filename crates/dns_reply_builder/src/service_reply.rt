@@ -38,7 +38,7 @@ impl ServiceReply {
         }
     }
 
-    /// Adds a record to a section, as `ReplyBuilder::add_plain` does. A reply that was rewritten takes no record more: Order.
+    /// Adds a record to a section, as `ReplyBuilder::add_plain` does. A reply that was rewritten or lost takes no record more: Order.
     pub fn add(
         &mut self,
         alloc: Global,
@@ -62,7 +62,7 @@ impl ServiceReply {
         }
     }
 
-    /// Adds an option to its OPT record, as `ReplyBuilder::add_option` does. A reply that was rewritten takes none more: Order.
+    /// Adds an option to its OPT record, as `ReplyBuilder::add_option` does. A reply that was rewritten or lost takes none more: Order.
     pub fn add_option(
         &mut self,
         alloc: Global,
