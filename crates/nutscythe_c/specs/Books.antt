@@ -10,16 +10,15 @@ use Rattle.dns_events.specs.declared.look.Look.{Look as State}
 use Rattle.dns_events.specs.declared.settings.Settings.{Settings}
 use Rattle.dns_embed.specs.Connections.{configured}
 use Rattle.nutscythe_c.specs.declared.kept.Kept.{Kept}
-use Rattle.nutscythe_c.specs.declared.kept.Kept.TheVariants.{Settings as KeptSettings, Connection as KeptConnection, Book as KeptBook}
+use Rattle.nutscythe_c.specs.declared.kept.Kept.TheVariants.{Connection as KeptConnection, Book as KeptBook}
 use Rattle.nutscythe_c.specs.declared.status.Status.{Status}
 use Rattle.nutscythe_c.specs.declared.status.Status.TheVariants.{Done, Nothing, Dropped, Close, NoMemory, NoHandle, OutOfRange}
 
 -- a book of the configurations in settings, of which no slot is taken
-abbrev pub OpensBook : Option Kept → Option Kept → Option Kept → Status → Type 0
-OpensBook (Some (KeptSettings s)) before after Done = after ≡ Some (KeptBook (new_state s.dgram s.stream))
-OpensBook (Some (KeptSettings s)) before after NoMemory = after ≡ before
-OpensBook (Some (KeptSettings s)) before after t = ⊥
-OpensBook kept before after t = (t ≡ NoHandle) × (after ≡ before)
+abbrev pub OpensBook : Settings → Option Kept → Option Kept → Status → Type 0
+OpensBook s before after Done = after ≡ Some (KeptBook (new_state s.dgram s.stream))
+OpensBook s before after NoMemory = after ≡ before
+OpensBook s before after t = ⊥
 
 -- the call of a number
 abbrev pub call_of : ℕ → Option Call
@@ -54,7 +53,3 @@ abbrev pub Configures : Settings → Option Kept → Option Kept → Status → 
 Configures s (Some (KeptConnection c)) after t = (after ≡ Some (KeptConnection (configured s.stream.connection_config c))) × (t ≡ Done)
 Configures s (Some (KeptBook b)) after t = Called (Reconfigure s.dgram s.stream) b after t
 Configures s before after t = (t ≡ NoHandle) × (after ≡ before)
-
-abbrev pub ConfiguresBy : Option Kept → Option Kept → Option Kept → Status → Type 0
-ConfiguresBy (Some (KeptSettings s)) before after t = Configures s before after t
-ConfiguresBy kept before after t = (t ≡ NoHandle) × (after ≡ before)

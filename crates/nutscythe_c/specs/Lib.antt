@@ -10,3 +10,4 @@ pub mod Replies
 pub mod Readings
 pub mod Transactions
 pub mod Books
+pub mod Uses

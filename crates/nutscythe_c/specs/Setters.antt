@@ -63,8 +63,7 @@ Denies ip (Some (KeptSettings s)) after t = (denied : List IpAddr) × (after ≡
 Denies ip before after t = (t ≡ NoHandle) × (after ≡ before)
 
 -- another handle holds the same settings
-abbrev pub Copies : Option Kept → Option Kept → Option Kept → Status → Type 0
-Copies (Some (KeptSettings s)) before after Done = after ≡ Some (KeptSettings s)
-Copies (Some (KeptSettings s)) before after NoMemory = after ≡ before
-Copies (Some (KeptSettings s)) before after t = ⊥
-Copies kept before after t = (t ≡ NoHandle) × (after ≡ before)
+abbrev pub Copies : Settings → Option Kept → Option Kept → Status → Type 0
+Copies s before after Done = after ≡ Some (KeptSettings s)
+Copies s before after NoMemory = after ≡ before
+Copies s before after t = ⊥

@@ -14,7 +14,7 @@ use Rattle.dns_embed.specs.declared.connection.Written.{Written}
 use Rattle.dns_embed.specs.declared.connection.Written.TheVariants as Write
 use Rattle.dns_embed.specs.Connections.{NextIs, NothingDone, WriteIs, at_moment, is_idle, offering}
 use Rattle.nutscythe_c.specs.declared.kept.Kept.{Kept}
-use Rattle.nutscythe_c.specs.declared.kept.Kept.TheVariants.{Settings as KeptSettings, Connection as KeptConnection}
+use Rattle.nutscythe_c.specs.declared.kept.Kept.TheVariants.{Connection as KeptConnection}
 use Rattle.nutscythe_c.specs.declared.status.Status.{Status}
 use Rattle.nutscythe_c.specs.declared.status.Status.TheVariants.{Done, Nothing, Response, Dropped, Close, NoMemory, NoHandle, NoRoom, TooLong}
 use Rattle.nutscythe_c.specs.Calls.{Unwritten}
@@ -41,10 +41,6 @@ abbrev pub Opens : ℕ → Settings → Option Kept → Option Kept → Status �
 Opens at s before after Done = after ≡ Some (KeptConnection (fresh at s.stream.connection_config))
 Opens at s before after NoMemory = after ≡ before
 Opens at s before after t = ⊥
-
-abbrev pub OpensBy : ℕ → Option Kept → Option Kept → Option Kept → Status → Type 0
-OpensBy at (Some (KeptSettings s)) before after t = Opens at s before after t
-OpensBy at kept before after t = (t ≡ NoHandle) × (after ≡ before)
 
 -- octets stand behind those that came before
 abbrev pub Fed : List ℕ → Connection → Connection → Status → Type 0

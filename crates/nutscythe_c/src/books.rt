@@ -2,13 +2,15 @@
 
 ghost use Rattle.std.specs.Prelude.{◌≡◌};
 ghost use Rattle.nutscythe_c.specs.declared.status.Status.{Status as TheStatus};
-ghost use Rattle.nutscythe_c.specs.Books.{Calls, Configures, ConfiguresBy, OpensBook, book_status, call_of};
+ghost use Rattle.nutscythe_c.specs.Books.{Calls, Configures, OpensBook, book_status, call_of};
 ghost use Rattle.nutscythe_c.specs.Calls.{number};
 ghost use Rattle.nutscythe_c.specs.Objects.{OfFirst};
+ghost use Rattle.nutscythe_c.specs.Uses.{UsesBy};
 
 use crate::handle::Handle;
 use crate::kept::Kept;
 use crate::status::Status;
+use crate::uses::{Use, use_at};
 use dns_admission::{Admission, BookState, Call, Reply};
 use dns_service::Settings;
 use std::alloc::Global;
@@ -22,44 +24,19 @@ pub extern "C" fn nutscythe_raw_book_open(
 ) -> u32
     ensures { (t : TheStatus) × (result ≡ number t)
         × OfFirst settings.old settings.new (λ h i. (i.kept ≡ h.kept) × OfFirst book.old book.new
-        (λ b c. OpensBook h.kept b.kept c.kept t) (t ≡ TheStatus.NullPointer)) (t ≡ TheStatus.NullPointer × book.new ≡ book.old) }
+        (λ b c. UsesBy Use.Book h.kept b.kept c.kept t) (t ≡ TheStatus.NullPointer)) (t ≡ TheStatus.NullPointer × book.new ≡ book.old) }
 {
-    open_at(alloc, settings, book) as u32
+    use_at(alloc, Use::Book, settings, book) as u32
 }
 
-/// Opens a book, by its status.
-fn open_at(alloc: Global, settings: &mut [Handle], book: &mut [Handle]) -> Status
-    ensures { OfFirst settings.old settings.new (λ h i. (i.kept ≡ h.kept) × OfFirst book.old book.new
-        (λ b c. OpensBook h.kept b.kept c.kept result) (result ≡ Status.NullPointer)) (result ≡ Status.NullPointer × book.new ≡ book.old) }
+/// Opens a book of settings.
+pub(crate) fn open_book(alloc: Global, made: &Settings, book: &mut Handle) -> Status
+    ensures { OpensBook made.now book.old.kept book.new.kept result }
 {
-    let [settings, ..] = settings else {
-        return Status::NullPointer;
-    };
-    let [book, ..] = book else {
-        return Status::NullPointer;
-    };
-    open_by(alloc, settings, book)
-}
-
-/// Opens a book of what a handle holds.
-fn open_by(alloc: Global, settings: &mut Handle, book: &mut Handle) -> Status
-    ensures kept { settings.new.kept ≡ settings.old.kept }
-    ensures opened { OpensBook settings.old.kept book.old.kept book.new.kept result }
-{
-    let Some(kept) = settings.take(alloc) else {
-        return Status::NoHandle;
-    };
-    let status = match &*kept {
-        Kept::Settings(made) => {
-            match book.hold(alloc, Kept::Book(BookState::new(made.dgram, made.stream))) {
-                Ok(()) => Status::Done,
-                Err(_) => Status::NoMemory,
-            }
-        }
-        _ => Status::NoHandle,
-    };
-    settings.put(kept);
-    status
+    match book.hold(alloc, Kept::Book(BookState::new(made.dgram, made.stream))) {
+        Ok(()) => Status::Done,
+        Err(_) => Status::NoMemory,
+    }
 }
 
 /// The call of a number: 0 asks for a slot, 1 gives one back, 2 shuts the server down.
@@ -131,44 +108,13 @@ pub extern "C" fn nutscythe_raw_configure(
 ) -> u32
     ensures { (t : TheStatus) × (result ≡ number t)
         × OfFirst settings.old settings.new (λ h i. (i.kept ≡ h.kept) × OfFirst handle.old handle.new
-        (λ c d. ConfiguresBy h.kept c.kept d.kept t) (t ≡ TheStatus.NullPointer)) (t ≡ TheStatus.NullPointer × handle.new ≡ handle.old) }
+        (λ c d. UsesBy Use.Configuration h.kept c.kept d.kept t) (t ≡ TheStatus.NullPointer)) (t ≡ TheStatus.NullPointer × handle.new ≡ handle.old) }
 {
-    configure_at(alloc, settings, handle) as u32
-}
-
-/// Lets what a handle holds take configurations, by the status.
-fn configure_at(alloc: Global, settings: &mut [Handle], handle: &mut [Handle]) -> Status
-    ensures { OfFirst settings.old settings.new (λ h i. (i.kept ≡ h.kept) × OfFirst handle.old handle.new
-        (λ c d. ConfiguresBy h.kept c.kept d.kept result) (result ≡ Status.NullPointer))
-        (result ≡ Status.NullPointer × handle.new ≡ handle.old) }
-{
-    let [settings, ..] = settings else {
-        return Status::NullPointer;
-    };
-    let [handle, ..] = handle else {
-        return Status::NullPointer;
-    };
-    configure_by(alloc, settings, handle)
-}
-
-/// Lets what a handle holds take the configurations that another one holds.
-fn configure_by(alloc: Global, settings: &mut Handle, handle: &mut Handle) -> Status
-    ensures kept { settings.new.kept ≡ settings.old.kept }
-    ensures configured { ConfiguresBy settings.old.kept handle.old.kept handle.new.kept result }
-{
-    let Some(kept) = settings.take(alloc) else {
-        return Status::NoHandle;
-    };
-    let status = match &*kept {
-        Kept::Settings(made) => configure(alloc, made, handle),
-        _ => Status::NoHandle,
-    };
-    settings.put(kept);
-    status
+    use_at(alloc, Use::Configuration, settings, handle) as u32
 }
 
 /// Lets what a handle holds take the configurations in settings.
-fn configure(alloc: Global, made: &Settings, handle: &mut Handle) -> Status
+pub(crate) fn configure(alloc: Global, made: &Settings, handle: &mut Handle) -> Status
     ensures { Configures made.now handle.old.kept handle.new.kept result }
 {
     let Some(mut kept) = handle.take(alloc) else {

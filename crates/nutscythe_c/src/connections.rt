@@ -4,11 +4,13 @@ ghost use Rattle.std.specs.Prelude.{◌≡◌, slice_get};
 ghost use Rattle.nutscythe_c.specs.declared.status.Status.{Status as TheStatus};
 ghost use Rattle.nutscythe_c.specs.Calls.{number};
 ghost use Rattle.nutscythe_c.specs.Objects.{OfFirst};
-ghost use Rattle.nutscythe_c.specs.Streams.{Feeds, Fed, Fronts, Given, Gives, Offered, Offers, Opens, OpensBy, Shows, Writes, Wrote};
+ghost use Rattle.nutscythe_c.specs.Streams.{Feeds, Fed, Fronts, Given, Gives, Offered, Offers, Opens, Shows, Writes, Wrote};
+ghost use Rattle.nutscythe_c.specs.Uses.{UsesBy};
 
 use crate::handle::Handle;
 use crate::kept::Kept;
 use crate::status::Status;
+use crate::uses::{Use, use_at};
 use dns_embed::{Connection, Next, Written, put};
 use dns_service::Settings;
 use std::alloc::Global;
@@ -23,45 +25,14 @@ pub extern "C" fn nutscythe_raw_connection_open(
 ) -> u32
     ensures { (t : TheStatus) × (result ≡ number t)
         × OfFirst settings.old settings.new (λ h i. (i.kept ≡ h.kept) × OfFirst connection.old connection.new
-        (λ c d. OpensBy at h.kept c.kept d.kept t) (t ≡ TheStatus.NullPointer))
+        (λ c d. UsesBy (Use.Connection at) h.kept c.kept d.kept t) (t ≡ TheStatus.NullPointer))
         (t ≡ TheStatus.NullPointer × connection.new ≡ connection.old) }
 {
-    open_at(alloc, settings, at, connection) as u32
-}
-
-/// Opens a connection, by its status.
-fn open_at(alloc: Global, settings: &mut [Handle], at: u64, connection: &mut [Handle]) -> Status
-    ensures { OfFirst settings.old settings.new (λ h i. (i.kept ≡ h.kept) × OfFirst connection.old connection.new
-        (λ c d. OpensBy at h.kept c.kept d.kept result) (result ≡ Status.NullPointer))
-        (result ≡ Status.NullPointer × connection.new ≡ connection.old) }
-{
-    let [settings, ..] = settings else {
-        return Status::NullPointer;
-    };
-    let [connection, ..] = connection else {
-        return Status::NullPointer;
-    };
-    open_by(alloc, settings, at, connection)
-}
-
-/// Opens a connection of what a handle holds.
-fn open_by(alloc: Global, settings: &mut Handle, at: u64, connection: &mut Handle) -> Status
-    ensures kept { settings.new.kept ≡ settings.old.kept }
-    ensures opened { OpensBy at settings.old.kept connection.old.kept connection.new.kept result }
-{
-    let Some(kept) = settings.take(alloc) else {
-        return Status::NoHandle;
-    };
-    let status = match &*kept {
-        Kept::Settings(made) => open(alloc, made, at, connection),
-        _ => Status::NoHandle,
-    };
-    settings.put(kept);
-    status
+    use_at(alloc, Use::Connection(at), settings, connection) as u32
 }
 
 /// Opens a connection of settings.
-fn open(alloc: Global, settings: &Settings, at: u64, connection: &mut Handle) -> Status
+pub(crate) fn open(alloc: Global, settings: &Settings, at: u64, connection: &mut Handle) -> Status
     ensures { Opens at settings.now connection.old.kept connection.new.kept result }
 {
     let config = settings.stream.connection_config();

@@ -46,6 +46,7 @@ mod servers;
 mod settings;
 mod status;
 mod transactions;
+mod uses;
 
 pub use handle::Handle;
 pub use kept::Kept;
@@ -54,3 +55,4 @@ pub use rule::Rule;
 pub use servers::Servers;
 pub use settings::LineRefusal;
 pub use status::Status;
+pub use uses::Use;

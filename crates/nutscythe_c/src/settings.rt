@@ -6,11 +6,13 @@ ghost use Rattle.nutscythe_c.specs.Calls.{number};
 ghost use Rattle.nutscythe_c.specs.Objects.{OfFirst};
 ghost use Rattle.nutscythe_c.specs.Origins.{ip_with};
 ghost use Rattle.nutscythe_c.specs.Setters.{Copies, Denies, HasSecret, MakesSettings, PushesDenied, ReadsText, SetsCookies, reason_number};
+ghost use Rattle.nutscythe_c.specs.Uses.{UsesBy};
 
 use crate::handle::Handle;
 use crate::kept::Kept;
 use crate::origin::{ip_with, sixteen};
 use crate::status::Status;
+use crate::uses::{Use, use_at};
 use dns_base::{Addrs, IpAddr};
 use dns_embed::read_settings;
 use dns_service::Settings;
@@ -229,44 +231,14 @@ pub extern "C" fn nutscythe_raw_settings_copy(
 ) -> u32
     ensures { (t : TheStatus) × (result ≡ number t)
         × OfFirst settings.old settings.new (λ h i. (i.kept ≡ h.kept) × OfFirst copy.old copy.new
-        (λ c d. Copies h.kept c.kept d.kept t) (t ≡ TheStatus.NullPointer)) (t ≡ TheStatus.NullPointer × copy.new ≡ copy.old) }
+        (λ c d. UsesBy Use.Copy h.kept c.kept d.kept t) (t ≡ TheStatus.NullPointer)) (t ≡ TheStatus.NullPointer × copy.new ≡ copy.old) }
 {
-    copy_at(alloc, settings, copy) as u32
-}
-
-/// Copies settings, by its status.
-fn copy_at(alloc: Global, settings: &mut [Handle], copy: &mut [Handle]) -> Status
-    ensures { OfFirst settings.old settings.new (λ h i. (i.kept ≡ h.kept) × OfFirst copy.old copy.new
-        (λ c d. Copies h.kept c.kept d.kept result) (result ≡ Status.NullPointer)) (result ≡ Status.NullPointer × copy.new ≡ copy.old) }
-{
-    let [settings, ..] = settings else {
-        return Status::NullPointer;
-    };
-    let [copy, ..] = copy else {
-        return Status::NullPointer;
-    };
-    copy_to(alloc, settings, copy)
-}
-
-/// Copies what one handle holds to another.
-fn copy_to(alloc: Global, settings: &mut Handle, copy: &mut Handle) -> Status
-    ensures kept { settings.new.kept ≡ settings.old.kept }
-    ensures copied { Copies settings.old.kept copy.old.kept copy.new.kept result }
-{
-    let Some(kept) = settings.take(alloc) else {
-        return Status::NoHandle;
-    };
-    let status = match &*kept {
-        Kept::Settings(made) => hold_copy(alloc, made, copy),
-        _ => Status::NoHandle,
-    };
-    settings.put(kept);
-    status
+    use_at(alloc, Use::Copy, settings, copy) as u32
 }
 
 /// Holds a copy of settings.
-fn hold_copy(alloc: Global, made: &Settings, copy: &mut Handle) -> Status
-    ensures { Copies (Some (Kept.Settings made.now)) copy.old.kept copy.new.kept result }
+pub(crate) fn hold_copy(alloc: Global, made: &Settings, copy: &mut Handle) -> Status
+    ensures { Copies made.now copy.old.kept copy.new.kept result }
 {
     let Ok(copied) = made.try_clone(alloc) else {
         return Status::NoMemory;
