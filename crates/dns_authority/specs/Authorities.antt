@@ -4,6 +4,7 @@ use Rattle.std.specs.List.{AllByRecursion}
 use Rattle.std.specs.Option.{option_or}
 use Rattle.dns_name.specs.Canonical.{same_name}
 use Rattle.dns_base.specs.Header.{header_of}
+use Rattle.dns_base.specs.Msg.{ResourceRecord}
 use Rattle.dns_base.specs.Sections.{counts_of, first_of, questions_of}
 use Rattle.dns_message.specs.declared.question.Question.{Question}
 use Rattle.dns_service.specs.Answer.{Answer, Item}
@@ -16,12 +17,17 @@ use Rattle.dns_name_server.specs.NameServerReplies.{name_server_reply}
 use Rattle.dns_zone.specs.ZoneTurns.{zone_begun, zone_message}
 use Rattle.dns_authority.specs.Networks.{is_in_any}
 use Rattle.dns_authority.specs.declared.networks.Network.{Network}
-use Rattle.dns_transfer.specs.Transfers.{message_item, transfer}
+use Rattle.dns_transfer.specs.Transfers.{bunched, message_item, transfer, transfer_records}
 
 -- a zone, and the networks that may transfer it
 pub record ServedState : Type 0 where
   pub zone : ZoneState
   pub allowed : List Network
+
+-- the bunches of a transfer, which are kept of a zone that may be transferred to some network
+abbrev pub kept_bunches : List Network → ZoneState → Option (List (List ResourceRecord))
+kept_bunches [] z = None
+kept_bunches (n ∷ ns) z = Some (bunched (transfer_records z))
 
 -- of two zones the one with the longer apex, of like ones the first
 abbrev pub longer : ServedState → Option ServedState → Option ServedState

@@ -1,11 +1,11 @@
 //! A zone as it is served.
 
-ghost use Rattle.std.specs.Prelude.{◌≡◌, ◌↔◌, ◌&&◌, IsTrue, IfOk, None, length};
+ghost use Rattle.std.specs.Prelude.{◌≡◌, ◌↔◌, ◌&&◌, IsTrue, IfOk, None, length, option_map, true};
 ghost use Rattle.std.specs.Arc.{arc_value};
 ghost use Rattle.dns_name.specs.Canonical.{same_name};
 ghost use Rattle.dns_route.specs.Routes.{ends_name};
-ghost use Rattle.dns_authority.specs.Authorities.{may_transfer, zone_item};
-ghost use Rattle.dns_transfer.specs.Transfers.{transfer};
+ghost use Rattle.dns_authority.specs.Authorities.{kept_bunches, may_transfer, zone_item};
+ghost use Rattle.dns_transfer.specs.Transfers.{bunched, transfer, transfer_records};
 
 use crate::laws::same_names_are_folded;
 use crate::networks::{Network, is_in_any};
@@ -19,25 +19,51 @@ use std::alloc::Global;
 use std::marker::Model;
 use std::sync::Arc;
 
-/// A zone, the networks to which it may be transferred, and its records in the bunches of a transfer.
+/// A zone, the networks to which it may be transferred, and its records in the bunches of a transfer, where there is such a
+/// network.
 #[derive(Drop)]
 pub(crate) struct ServedZone {
     zone: ZoneTree,
     allowed: Vec<Network>,
-    bunches: Arc<Bunches>,
+    bunches: Option<Arc<Bunches>>,
 }
 
 impl Model for ServedZone {
-    ghost use Rattle.std.specs.Prelude.{◌≡◌};
+    ghost use Rattle.std.specs.Prelude.{◌≡◌, option_map};
     ghost use Rattle.std.specs.Arc.{arc_value};
-    ghost use Rattle.dns_transfer.specs.Transfers.{bunched, transfer_records};
-    ghost use Rattle.dns_authority.specs.Authorities.{ServedState};
+    ghost use Rattle.dns_authority.specs.Authorities.{ServedState, kept_bunches};
 
     ghost Value = { ServedState };
 
     ghost view = { λ s. record { zone = s.zone; allowed = s.allowed.items } };
 
-    ghost invariant = { λ s. arc_value s.bunches ≡ bunched (transfer_records s.zone) };
+    ghost invariant = { λ s. option_map arc_value s.bunches ≡ kept_bunches s.allowed.items s.zone };
+}
+
+/// The bunches of a transfer of a zone.
+fn shared_bunches(alloc: Global, zone: &ZoneTree) -> Result<Arc<Bunches>, OutOfMemory>
+    ensures { IfOk result (λ b. arc_value b ≡ bunched (transfer_records zone.now)) }
+{
+    let bunches = Bunches::of(alloc, zone.records())?;
+    let shared = Arc::new(alloc, bunches)?;
+    Ok(shared)
+}
+
+/// The bunches of a transfer of a zone that may be transferred to some network.
+fn kept_bunches(
+    alloc: Global,
+    zone: &ZoneTree,
+    allowed: &[Network],
+) -> Result<Option<Arc<Bunches>>, OutOfMemory>
+    ensures { IfOk result (λ b. option_map arc_value b ≡ kept_bunches allowed.now zone.now) }
+{
+    match allowed.split_first() {
+        Some(_) => {
+            let bunches = shared_bunches(alloc, zone)?;
+            Ok(Some(bunches))
+        }
+        None => Ok(None),
+    }
 }
 
 impl ServedZone {
@@ -49,8 +75,7 @@ impl ServedZone {
     ) -> Result<ServedZone, OutOfMemory>
         ensures { IfOk result (λ s. s ≡ record { zone = zone; allowed = allowed.items }) }
     {
-        let bunches = Bunches::of(alloc, zone.records())?;
-        let bunches = Arc::new(alloc, bunches)?;
+        let bunches = kept_bunches(alloc, &zone, allowed.as_slice())?;
         Ok(ServedZone {
             zone,
             allowed,
@@ -110,12 +135,18 @@ impl ServedZone {
         message_item(built, None)
     }
 
-    /// Its transfer.
+    /// Its transfer, for a request that may ask for it.
     pub(crate) fn transfer<Meta>(&self, request: &Request<Meta>) -> Result<Transfer, OutOfMemory>
+        requires { may_transfer self.now.allowed request.now ≡ true }
         ensures { IfOk result (λ t. ⟦<Transfer as ReplyStream>⟧.answer t ≡ transfer self.now.zone request.now.octets) }
     {
-        let bunches = Arc::try_clone(&self.bunches)?;
-        let query = Arc::try_clone(request.message())?;
-        Ok(Transfer::new(bunches, query))
+        match &self.bunches {
+            Some(bunches) => {
+                let bunches = Arc::try_clone(bunches)?;
+                let query = Arc::try_clone(request.message())?;
+                Ok(Transfer::new(bunches, query))
+            }
+            None => unreachable!(),
+        }
     }
 }
