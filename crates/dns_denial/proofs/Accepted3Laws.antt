@@ -14,7 +14,7 @@ use Rattle.dns_zone_tree.specs.Regions.{Region, Within, BelowCut, BelowDname, as
 use Rattle.dns_zone_tree.specs.Wildcards.{are_some, encloser, had_records, star, wildcard}
 use Rattle.dns_denial.specs.Accepted.{is_given, servers_owner, sought_by}
 use Rattle.dns_denial.specs.Accepted3.{AreChosen, EachAbsenceIsProved3, HasOwnHashes, IsProvable, hashed_names, is_accepted_by3, is_accepted_within3, longer}
-use Rattle.dns_denial.specs.Chains.{IsTold, has_type, is_below_cut, is_record_at, is_told}
+use Rattle.dns_denial.specs.Chains.{IsDeniable, has_type, is_below_cut, is_record_at, is_deniable}
 use Rattle.dns_denial.specs.Denials.{CanBeDenied, HasNone, IsAnswered, IsUnsigned, is_under_dname}
 use Rattle.dns_denial.specs.Nsec3.{AreApart, Hashing, IsApart, IsNear, IsWhole3, Nsec3State, at_encloser, closer, covers3, has, is_delegation3, is_matched, lacks3, matches3, next_closer, opts_out, proves_expansion3, proves_insecure3, proves_name_error3, proves_no_data3, proves_wildcard_no_data3, provable}
 use Rattle.dns_denial.proofs.AcceptedLaws.{had_some, is_ds, none_of, there, unsigned_at, unsigned_cut}
@@ -169,14 +169,14 @@ module _ (z : ZoneState) (h : Hashing) (ns chosen : List Nsec3State) (t : ℕ) (
               let m = own z h ns w name a.0 q a.2 in
               let b : HasNone z name 43 = subst (HasNone z name) (is_ds z start t name k r) (none_of z t name true e f) in
               let u : IsUnsigned z name = unsigned_at z start t name k r b in
-              let listed : (s : ℕ) → IsTold s → list_any (is_record_at name s) z.records ≡ false → has a.0 s ≡ false = λ s p g.
+              let listed : (s : ℕ) → IsDeniable s → list_any (is_record_at name s) z.records ≡ false → has a.0 s ≡ false = λ s p g.
               w.chain.types a.0 a.2.one name e r.first m s p ∙ and_left (list_any (is_record_at name s) z.records) (not (is_cut_off z name) || (nat_eq s 2 || nat_eq s 43)) g in
               let six : has a.0 6 ≡ false = listed 6 (refl, refl) (no_soa z start name u.inner) in
               let five : has a.0 5 ≡ false = listed 5 (refl, refl) (not_at z name 5 b.alias) in
               let ds : has a.0 43 ≡ false = listed 43 (refl, refl) u.unsigned in
               let l : lacks3 43 a.0 ≡ true =
-              and_from (not ((nat_eq 43 255 && list_any is_told a.0.types) || (has a.0 43 || has a.0 5))) (not (has a.0 6))
-              (not_from_false ((nat_eq 43 255 && list_any is_told a.0.types) || (has a.0 43 || has a.0 5)) (or_from (nat_eq 43 255 && list_any is_told a.0.types) (has a.0 43 || has a.0 5) refl (or_from (has a.0 43) (has a.0 5) ds five)))
+              and_from (not ((nat_eq 43 255 && list_any is_deniable a.0.types) || (has a.0 43 || has a.0 5))) (not (has a.0 6))
+              (not_from_false ((nat_eq 43 255 && list_any is_deniable a.0.types) || (has a.0 43 || has a.0 5)) (or_from (nat_eq 43 255 && list_any is_deniable a.0.types) (has a.0 43 || has a.0 5) refl (or_from (has a.0 43) (has a.0 5) ds five)))
               (not_from_false (has a.0 6) six) in
               shown a.0 a.1 (and_from (matches3 h name a.0) (lacks3 t a.0) m (subst (λ (s : ℕ). lacks3 s a.0 ≡ true) (sym (is_ds z start t name k r)) l))
 

@@ -13,7 +13,7 @@ use Rattle.dns_zone.specs.ZoneReply.{exists}
 use Rattle.dns_denial.specs.Nsecs.{NsecState, is_before, lists}
 use Rattle.dns_zone_tree.specs.Wildcards.{encloser, star, wildcard}
 use Rattle.dns_denial.specs.Validation.{covers, denies_name, denies_type, is_delegation, lacks, matches, proves_of, shown_encloser, shown_wildcard, shows_empty}
-use Rattle.dns_denial.specs.Chains.{IsTold, IsWhole, is_below_cut, is_record_at}
+use Rattle.dns_denial.specs.Chains.{IsDeniable, IsWhole, is_below_cut, is_record_at}
 use Rattle.dns_denial.specs.Denials.{AllBehind, CanBeDenied, DsIsProvedAbsent, ExpansionsAreProved, HasNone, InsecureDelegationsAreProved, IsAnswered, IsLast, IsUnsigned, NameErrorsAreProved, NoDataIsProved, NoneBelow, WildcardNoDataIsProved, is_under_dname}
 use Rattle.dns_denial.proofs.NameLaws.{ends_cons, ends_itself, ends_root, ends_short, ends_tail, ends_trans, same_back, same_ends, same_itself, same_length, same_trans}
 use Rattle.dns_denial.proofs.OrderLaws.{before_right, ends_upto, same_upto, upto_both}
@@ -29,13 +29,13 @@ module _ (z : ZoneState) (ns : List NsecState) (w : IsWhole z ns) where
   start = starts z w.zone
 
   -- a record of a type at the owner of an NSEC that lists it
-  listed : (n : NsecState) (t : ℕ) → Contains ns n → IsTold t → lists n t ≡ true → Found (is_record_at n.owner t) z.records
+  listed : (n : NsecState) (t : ℕ) → Contains ns n → IsDeniable t → lists n t ≡ true → Found (is_record_at n.owner t) z.records
   listed n t c k h =
       found (is_record_at n.owner t) z.records
       (and_parts (list_any (is_record_at n.owner t) z.records) (not (is_cut_off z n.owner) || (nat_eq t 2 || nat_eq t 43)) (sym (w.chain.types n c t k) ∙ h)).0
 
   -- a type of which a name has no records is not listed
-  unlisted : (n : NsecState) (t : ℕ) → Contains ns n → IsTold t → list_any (is_record_at n.owner t) z.records ≡ false → lists n t ≡ false
+  unlisted : (n : NsecState) (t : ℕ) → Contains ns n → IsDeniable t → list_any (is_record_at n.owner t) z.records ≡ false → lists n t ≡ false
   unlisted n t c k h = w.chain.types n c t k ∙ and_left (list_any (is_record_at n.owner t) z.records) (not (is_cut_off z n.owner) || (nat_eq t 2 || nat_eq t 43)) h
 
   -- the NSEC of the apex lists SOA
@@ -160,7 +160,7 @@ module _ (z : ZoneState) (ns : List NsecState) (w : IsWhole z ns) where
   pub no_ds : (cut : List (List ℕ)) (n : NsecState) → IsUnsigned z cut → list_any (is_record_at cut 5) z.records ≡ false → IsLast ns cut n → denies_type z.apex cut 43 n ≡ true
   no_ds cut n u a l =
       let e = cut_owner cut n u l in
-      let none : (t : ℕ) → IsTold t → list_any (is_record_at cut t) z.records ≡ false → lists n t ≡ false = λ t k o. unlisted n t l.one k (none_as n.owner cut t e o) in
+      let none : (t : ℕ) → IsDeniable t → list_any (is_record_at cut t) z.records ≡ false → lists n t ≡ false = λ t k o. unlisted n t l.one k (none_as n.owner cut t e o) in
       or_left (matches cut n && lacks 43 n) (shows_empty z.apex cut n)
       (and_from (matches cut n) (lacks 43 n) e
       (and_from (not (nat_eq 43 255 || (lists n 43 || lists n 5))) (not (lists n 6))

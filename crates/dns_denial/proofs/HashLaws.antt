@@ -12,7 +12,7 @@ use Rattle.dns_zone.specs.Cuts.{delegates, is_cut_off}
 use Rattle.dns_zone.specs.Owned.{ZoneState, is_asked, is_of, is_owned}
 use Rattle.dns_zone.specs.ZoneReply.{exists}
 use Rattle.dns_zone_tree.specs.Wildcards.{star}
-use Rattle.dns_denial.specs.Chains.{IsTold, has_type, is_below_cut, is_record_at, is_told}
+use Rattle.dns_denial.specs.Chains.{IsDeniable, has_type, is_below_cut, is_record_at, is_deniable}
 use Rattle.dns_denial.specs.Denials.{CanBeDenied, HasNone, IsAnswered, IsUnsigned, is_under_dname}
 use Rattle.dns_denial.specs.Nsec3.{AreApart, ExpansionsAreProved3, Hashing, InsecureDelegationsAreProved3, IsApart, IsNear, IsWhole3, NameErrorsAreProved3, NoDataIsProved3, Nsec3State, OptedOutDelegationsAreProved3, WildcardNoDataIsProved3, at_encloser, closer, covers3, has, hash_of, is_delegation3, is_firm, is_matched, is_unsigned, lacks3, matches3, next_closer, opts_out, provable, proves_encloser}
 use Rattle.dns_denial.proofs.NameLaws.{ends_cons, ends_itself, ends_short, ends_trans, ends_whole, same_back, same_ends, same_trans}
@@ -73,7 +73,7 @@ module _ (z : ZoneState) (h : Hashing) (ns : List Nsec3State) (w : IsWhole3 z h 
   pub unmatched : (name : List (List ℕ)) → exists z name ≡ false → IsApart z h ns name → is_matched h ns name ≡ false
   unmatched name e i = false_from_ne_true (is_matched h ns name) (λ k. true≢false (sym (i k) ∙ e))
 
-  pub typed : (name : List (List ℕ)) (a : Nsec3State) (t : ℕ) → Contains ns a → exists z name ≡ true → is_cut_off z name ≡ false → matches3 h name a ≡ true → IsTold t → has a t ≡ list_any (is_record_at name t) z.records
+  pub typed : (name : List (List ℕ)) (a : Nsec3State) (t : ℕ) → Contains ns a → exists z name ≡ true → is_cut_off z name ≡ false → matches3 h name a ≡ true → IsDeniable t → has a t ≡ list_any (is_record_at name t) z.records
   typed name a t c e k m o =
       w.chain.types a c name e (not_below z name k) m t o
       ∙ at_end (list_any (is_record_at name t) z.records) (not (is_cut_off z name) || (nat_eq t 2 || nat_eq t 43)) (or_left (not (is_cut_off z name)) (nat_eq t 2 || nat_eq t 43) (not_from_false (is_cut_off z name) k))
@@ -154,28 +154,28 @@ module _ (z : ZoneState) (h : Hashing) (ns : List Nsec3State) (w : IsWhole3 z h 
   pub lacking : (name : List (List ℕ)) (t : ℕ) (a : Nsec3State) → exists z name ≡ true → is_cut_off z name ≡ false → is_matched h ns name ≡ true → HasNone z name t → CanBeDenied z name t → IsNear h ns name a → (matches3 h name a && lacks3 t a) ≡ true
   lacking name t a x k r d o l =
       and_from (matches3 h name a) (lacks3 t a) m
-      (and_from (not ((nat_eq t 255 && list_any is_told a.types) || (has a t || has a 5))) (if nat_eq t 43 then not (has a 6) else not (is_delegation3 a))
-      (not_from_false ((nat_eq t 255 && list_any is_told a.types) || (has a t || has a 5))
-      (or_from (nat_eq t 255 && list_any is_told a.types) (has a t || has a 5) (any (cases_Bool (nat_eq t 255)))
+      (and_from (not ((nat_eq t 255 && list_any is_deniable a.types) || (has a t || has a 5))) (if nat_eq t 43 then not (has a 6) else not (is_delegation3 a))
+      (not_from_false ((nat_eq t 255 && list_any is_deniable a.types) || (has a t || has a 5))
+      (or_from (nat_eq t 255 && list_any is_deniable a.types) (has a t || has a 5) (any (cases_Bool (nat_eq t 255)))
       (or_from (has a t) (has a 5) (at t o.told ∙ not_at z name t d.none) (at 5 (refl, refl) ∙ alias (cases_Bool (nat_eq t 255))))))
       (by_ds (nat_eq t 43) refl))
     where
       m : matches3 h name a ≡ true
       m = own name a r l
 
-      at : (u : ℕ) → IsTold u → has a u ≡ list_any (is_record_at name u) z.records
+      at : (u : ℕ) → IsDeniable u → has a u ≡ list_any (is_record_at name u) z.records
       at u q = typed name a u l.one x k m q
 
       same : (u : ℕ) → nat_eq u u ≡ true
       same u = grind (arith, nat_tests)
 
-      told : (u : ℕ) → is_told u ≡ true → IsTold u
+      told : (u : ℕ) → is_deniable u ≡ true → IsDeniable u
       told u q = let p = or_parts (nat_eq u 46) (nat_eq u 47) (not-true (nat_eq u 46 || nat_eq u 47) q) in (p.0, p.1)
 
-      any : (nat_eq t 255 ≡ true) ⊎ (nat_eq t 255 ≡ false) → (nat_eq t 255 && list_any is_told a.types) ≡ false
-      any (inr q) = and_left (nat_eq t 255) (list_any is_told a.types) q
-      any (inl q) = and_right (nat_eq t 255) (list_any is_told a.types) (false_from_ne_true (list_any is_told a.types) (λ y.
-          let f = found is_told a.types y in
+      any : (nat_eq t 255 ≡ true) ⊎ (nat_eq t 255 ≡ false) → (nat_eq t 255 && list_any is_deniable a.types) ≡ false
+      any (inr q) = and_left (nat_eq t 255) (list_any is_deniable a.types) q
+      any (inl q) = and_right (nat_eq t 255) (list_any is_deniable a.types) (false_from_ne_true (list_any is_deniable a.types) (λ y.
+          let f = found is_deniable a.types y in
           true≢false (sym (present (nat_eq f.one) a.types f.one f.there (same f.one)) ∙ (at f.one (told f.one f.passes) ∙ no_record name t f.one d q))))
 
       alias : (nat_eq t 255 ≡ true) ⊎ (nat_eq t 255 ≡ false) → list_any (is_record_at name 5) z.records ≡ false
@@ -316,7 +316,7 @@ module _ (z : ZoneState) (h : Hashing) (ns : List Nsec3State) (w : IsWhole3 z h 
 
   pub delegation_listed : (cut : List (List ℕ)) (b : Nsec3State) → IsUnsigned z cut → Contains ns b → matches3 h cut b ≡ true → (is_delegation3 b && not (has b 43)) ≡ true
   delegation_listed cut b u c m =
-      let listed : (t : ℕ) → IsTold t → has b t ≡ has_type z cut t = λ t o. w.chain.types b c cut (cut_exists cut u) u.first m t o in
+      let listed : (t : ℕ) → IsDeniable t → has b t ≡ has_type z cut t = λ t o. w.chain.types b c cut (cut_exists cut u) u.first m t o in
       let two : has b 2 ≡ true = listed 2 (refl, refl) ∙ and_from (list_any (is_record_at cut 2) z.records) (not (is_cut_off z cut) || (nat_eq 2 2 || nat_eq 2 43)) u.servers (or_right (not (is_cut_off z cut)) (nat_eq 2 2 || nat_eq 2 43) refl) in
       let six : has b 6 ≡ false = listed 6 (refl, refl) ∙ and_left (list_any (is_record_at cut 6) z.records) (not (is_cut_off z cut) || (nat_eq 6 2 || nat_eq 6 43)) (no_soa z start cut u.inner) in
       let ds : has b 43 ≡ false = listed 43 (refl, refl) ∙ and_left (list_any (is_record_at cut 43) z.records) (not (is_cut_off z cut) || (nat_eq 43 2 || nat_eq 43 43)) u.unsigned in

@@ -13,7 +13,7 @@ use Rattle.dns_zone.specs.Cuts.{delegates, is_cut_off}
 use Rattle.dns_zone.specs.Owned.{ZoneState, is_of, is_owned}
 use Rattle.dns_denial.specs.Nsecs.{AreSorted, NsecState, is_before, lists}
 use Rattle.dns_denial.specs.Validation.{covers, matches}
-use Rattle.dns_denial.specs.Chains.{IsChained, IsTold, has_type, is_below_cut, is_record_at, is_told, must_have}
+use Rattle.dns_denial.specs.Chains.{IsChained, IsDeniable, has_type, is_below_cut, is_record_at, is_deniable, must_have}
 use Rattle.dns_denial.specs.Checks.{AreLinked, owner_behind}
 use Rattle.dns_denial.proofs.NameLaws.{ends_trans, same_back, same_ends, same_itself, same_trans}
 use Rattle.dns_denial.proofs.OrderLaws.{before_left, before_right, before_upto, ends_upto, same_upto, upto_both}

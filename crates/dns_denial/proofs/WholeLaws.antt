@@ -12,7 +12,7 @@ use Rattle.dns_zone.specs.Cuts.{is_cut_off}
 use Rattle.dns_zone.specs.Owned.{ZoneState, is_of, is_owned}
 use Rattle.dns_denial.specs.Nsecs.{AreSorted, NsecState, is_before, lists}
 use Rattle.dns_denial.specs.Validation.{matches}
-use Rattle.dns_denial.specs.Chains.{IsChained, IsTold, IsWhole, has_type, is_below_cut, is_record_at, is_told, must_have}
+use Rattle.dns_denial.specs.Chains.{IsChained, IsDeniable, IsWhole, has_type, is_below_cut, is_record_at, is_deniable, must_have}
 use Rattle.dns_denial.specs.Checks.{AreLinked, Breaks, IsUnlinked, WholeChainsBreakNowhere, is_there, is_to_list, is_unfounded, is_unlisted, lists_record, owner_behind}
 use Rattle.dns_denial.specs.Denials.{AllBehind, IsLast}
 use Rattle.dns_denial.specs.declared.chain_error.ChainError.{ChainError}
@@ -24,10 +24,10 @@ use Rattle.dns_denial.proofs.OrderLaws.{before_right, same_upto, upto_both}
 use Rattle.dns_denial.proofs.SameLaws.{must_as, type_as}
 use Rattle.dns_denial.proofs.StartLaws.{HasStart, starts}
 
-told_true : (t : ℕ) → IsTold t → is_told t ≡ true
+told_true : (t : ℕ) → IsDeniable t → is_deniable t ≡ true
 told_true t h = not_from_false (nat_eq t 46 || nat_eq t 47) (or_from (nat_eq t 46) (nat_eq t 47) h.0 h.1)
 
-true_told : (t : ℕ) → is_told t ≡ true → IsTold t
+true_told : (t : ℕ) → is_deniable t ≡ true → IsDeniable t
 true_told t h = let p = or_parts (nat_eq t 46) (nat_eq t 47) (not-true (nat_eq t 46 || nat_eq t 47) h) in (p.0, p.1)
 
 eq_of : (a b : ℕ) → nat_eq a b ≡ true → a ≡ b
@@ -78,12 +78,12 @@ whole_by z ns start sorted a b linked =
     let g = found (lists_record z f.one) ns (listed f.one f.there (must_as z name f.one.owner (same_back f.one.owner name f.passes) h)) in
     let q = and_parts (matches f.one.owner g.one) (not (is_to_list z f.one) || lists g.one (data_type f.one.rdata)) g.passes in
     present (matches name) ns g.one g.there (same_trans g.one.owner f.one.owner name q.0 f.passes) in
-    let there : (n : NsecState) → Contains ns n → (t : ℕ) → IsTold t → lists n t ≡ true → has_type z n.owner t ≡ true = λ n c t k h.
+    let there : (n : NsecState) → Contains ns n → (t : ℕ) → IsDeniable t → lists n t ≡ true → has_type z n.owner t ≡ true = λ n c t k h.
     let f = found (nat_eq t) n.types h in
     let e : t ≡ f.one = eq_of t f.one f.passes in
     let o = (and_parts (must_have z n.owner) (list_all (is_there z n) n.types) (founded n c)).1 in
-    first_of_or (is_told t) (has_type z n.owner t) (subst (λ (u : ℕ). is_there z n u ≡ true) (sym e) (each_of (is_there z n) n.types o f.one f.there)) (told_true t k) in
-    let back : (n : NsecState) → Contains ns n → (t : ℕ) → IsTold t → has_type z n.owner t ≡ true → lists n t ≡ true = λ n c t k h.
+    first_of_or (is_deniable t) (has_type z n.owner t) (subst (λ (u : ℕ). is_there z n u ≡ true) (sym e) (each_of (is_there z n) n.types o f.one f.there)) (told_true t k) in
+    let back : (n : NsecState) → Contains ns n → (t : ℕ) → IsDeniable t → has_type z n.owner t ≡ true → lists n t ≡ true = λ n c t k h.
     let f = found (is_record_at n.owner t) z.records (and_parts (list_any (is_record_at n.owner t) z.records) (not (is_cut_off z n.owner) || (nat_eq t 2 || nat_eq t 43)) h).0 in
     let q = and_parts (is_owned n.owner f.one) (is_of t f.one) f.passes in
     let e : data_type f.one.rdata ≡ t = eq_of (data_type f.one.rdata) t q.1 in
@@ -91,9 +91,9 @@ whole_by z ns start sorted a b linked =
     let g = found (lists_record z f.one) ns (listed f.one f.there (must_as z n.owner f.one.owner own (owed n c))) in
     let p = and_parts (matches f.one.owner g.one) (not (is_to_list z f.one) || lists g.one (data_type f.one.rdata)) g.passes in
     let same : g.one ≡ n = one_owner ns sorted g.one n g.there c (same_trans g.one.owner f.one.owner n.owner p.0 q.0) in
-    let told : is_told (data_type f.one.rdata) ≡ true = subst (λ (u : ℕ). is_told u ≡ true) (sym e) (told_true t k) in
+    let told : is_deniable (data_type f.one.rdata) ≡ true = subst (λ (u : ℕ). is_deniable u ≡ true) (sym e) (told_true t k) in
     let has : has_type z f.one.owner (data_type f.one.rdata) ≡ true = subst (λ (u : ℕ). has_type z f.one.owner u ≡ true) (sym e) (type_as z n.owner f.one.owner t own h) in
-    let l : lists g.one (data_type f.one.rdata) ≡ true = first_of_or (is_to_list z f.one) (lists g.one (data_type f.one.rdata)) p.1 (and_from (is_told (data_type f.one.rdata)) (has_type z f.one.owner (data_type f.one.rdata)) told has) in
+    let l : lists g.one (data_type f.one.rdata) ≡ true = first_of_or (is_to_list z f.one) (lists g.one (data_type f.one.rdata)) p.1 (and_from (is_deniable (data_type f.one.rdata)) (has_type z f.one.owner (data_type f.one.rdata)) told has) in
     subst (λ (u : ℕ). lists n u ≡ true) e (subst (λ (m : NsecState). lists m (data_type f.one.rdata) ≡ true) same l) in
     record {
       held = held;
@@ -117,7 +117,7 @@ whole_by z ns start sorted a b linked =
 
 module _ (z : ZoneState) (ns : List NsecState) (sorted : AreSorted ns) (w : IsWhole z ns) where
   all_there : (n : NsecState) → Contains ns n → list_all (is_there z n) n.types ≡ true
-  all_there n c = all_of (is_there z n) n.types (λ t d. or_of (is_told t) (has_type z n.owner t) (λ k. sym (w.chain.types n c t (true_told t k)) ∙ present (nat_eq t) n.types t d (same t)))
+  all_there n c = all_of (is_there z n) n.types (λ t d. or_of (is_deniable t) (has_type z n.owner t) (λ k. sym (w.chain.types n c t (true_told t k)) ∙ present (nat_eq t) n.types t d (same t)))
     where
       same : (t : ℕ) → nat_eq t t ≡ true
       same t = grind (arith, nat_tests)
@@ -129,7 +129,7 @@ module _ (z : ZoneState) (ns : List NsecState) (sorted : AreSorted ns) (w : IsWh
       present (lists_record z r) ns f.one f.there
       (and_from (matches r.owner f.one) (not (is_to_list z r) || lists f.one t) f.passes
       (or_of (is_to_list z r) (lists f.one t) (λ k.
-      let p = and_parts (is_told t) (has_type z r.owner t) k in
+      let p = and_parts (is_deniable t) (has_type z r.owner t) k in
       w.chain.types f.one f.there t (true_told t p.0) ∙ type_as z r.owner f.one.owner t (same_back f.one.owner r.owner f.passes) p.1)))
 
   unbroken : (e : ChainError) → Breaks z ns e → e ≡ NoMemory

@@ -25,11 +25,11 @@ abbrev pub has_type : ZoneState → List (List ℕ) → ℕ → Bool
 has_type z name t = list_any (is_record_at name t) z.records && (not (is_cut_off z name) || (nat_eq t 2 || nat_eq t 43))
 
 -- a type whose bit says something: that of NSEC and RRSIG is ignored (RFC 4035, section 5.4)
-abbrev pub IsTold : ℕ → Type 0
-IsTold t = (nat_eq t 46 ≡ false) × (nat_eq t 47 ≡ false)
+abbrev pub IsDeniable : ℕ → Type 0
+IsDeniable t = (nat_eq t 46 ≡ false) × (nat_eq t 47 ≡ false)
 
-abbrev pub is_told : ℕ → Bool
-is_told t = not (nat_eq t 46 || nat_eq t 47)
+abbrev pub is_deniable : ℕ → Bool
+is_deniable t = not (nat_eq t 46 || nat_eq t 47)
 
 -- the chain of a zone is whole
 pub record IsChained (z : ZoneState) (ns : List NsecState) : Type 0 where
@@ -42,7 +42,7 @@ pub record IsChained (z : ZoneState) (ns : List NsecState) : Type 0 where
   -- none of these names is between
   pub gap : (n : NsecState) → Contains ns n → (name : List (List ℕ)) → must_have z name ≡ true → covers z.apex name n ≡ false
   -- the types are those that the zone has there (RFC 4034, section 4.1.2)
-  pub types : (n : NsecState) → Contains ns n → (t : ℕ) → IsTold t → lists n t ≡ has_type z n.owner t
+  pub types : (n : NsecState) → Contains ns n → (t : ℕ) → IsDeniable t → lists n t ≡ has_type z n.owner t
 
 -- a zone that is served, whose chain is whole
 pub record IsWhole (z : ZoneState) (ns : List NsecState) : Type 0 where

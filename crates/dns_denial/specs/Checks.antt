@@ -10,7 +10,7 @@ use Rattle.dns_zone_tree.specs.Kinds.{kind_places}
 use Rattle.dns_zone_tree.specs.declared.kinds.Kinds.{Kinds}
 use Rattle.dns_denial.specs.Nsecs.{AreSorted, NsecState, lists}
 use Rattle.dns_denial.specs.Validation.{matches}
-use Rattle.dns_denial.specs.Chains.{IsWhole, has_type, is_below_cut, is_told, must_have}
+use Rattle.dns_denial.specs.Chains.{IsWhole, has_type, is_below_cut, is_deniable, must_have}
 use Rattle.dns_denial.specs.declared.standing.Standing.{Standing}
 use Rattle.dns_denial.specs.declared.standing.Standing.TheVariants.{Held, BelowCut, Unknown}
 use Rattle.dns_denial.specs.declared.chain_error.ChainError.{ChainError}
@@ -40,7 +40,7 @@ StandsAt z name Unknown = Unit {0}
 
 -- whether the type of a record is to be listed at its owner
 abbrev pub is_to_list : ZoneState → Record → Bool
-is_to_list z r = is_told (data_type r.rdata) && has_type z r.owner (data_type r.rdata)
+is_to_list z r = is_deniable (data_type r.rdata) && has_type z r.owner (data_type r.rdata)
 
 -- whether an NSEC is that of a record's owner, and lists the record's type where it is to be listed
 abbrev pub lists_record : ZoneState → Record → NsecState → Bool
@@ -54,7 +54,7 @@ is_unlisted z ns r = must_have z r.owner && not (list_any (lists_record z r) ns)
 
 -- whether a type that is listed is there
 abbrev pub is_there : ZoneState → NsecState → ℕ → Bool
-is_there z n t = not (is_told t) || has_type z n.owner t
+is_there z n t = not (is_deniable t) || has_type z n.owner t
 
 -- whether an NSEC is of a name that must have none, or lists a type that the zone doesn't have there
 abbrev pub is_unfounded : ZoneState → NsecState → Bool

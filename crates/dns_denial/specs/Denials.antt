@@ -12,7 +12,7 @@ use Rattle.dns_zone.specs.ZoneReply.{exists, follows}
 use Rattle.dns_zone_tree.specs.Wildcards.{wildcard}
 use Rattle.dns_denial.specs.Nsecs.{NsecState, is_before}
 use Rattle.dns_denial.specs.Validation.{proves_expansion, proves_insecure, proves_name_error, proves_no_data, proves_wildcard_no_data, shown_encloser, shown_wildcard}
-use Rattle.dns_denial.specs.Chains.{IsTold, IsWhole, is_below_cut, is_record_at}
+use Rattle.dns_denial.specs.Chains.{IsDeniable, IsWhole, is_below_cut, is_record_at}
 
 -- the last NSEC whose owner is not behind a name
 pub record IsLast (ns : List NsecState) (name : List (List ℕ)) (n : NsecState) : Type 0 where
@@ -36,7 +36,7 @@ pub record HasNone (z : ZoneState) (name : List (List ℕ)) (t : ℕ) : Type 0 w
 
 -- a question that can be denied: RRSIG and NSEC are there wherever a name is, and DS at the apex is the parent's to deny
 pub record CanBeDenied (z : ZoneState) (name : List (List ℕ)) (t : ℕ) : Type 0 where
-  pub told : IsTold t
+  pub told : IsDeniable t
   pub parent : (nat_eq t 43 && same_name name z.apex) ≡ false
 
 -- ---- what chosen NSECs prove of each zone whose chain they are from
@@ -55,7 +55,7 @@ ProvesNoData ns name n = (z : ZoneState) (t : ℕ) → IsWhole z ns → IsAnswer
 abbrev pub ProvesWildcardNoData : List NsecState → List (List ℕ) → NsecState → NsecState → Type 0
 ProvesWildcardNoData ns name n m = (z : ZoneState) (t : ℕ) → IsWhole z ns → ends_name name z.apex ≡ true → IsAnswered z name
     → exists z name ≡ false
-    → exists z (wildcard z name) ≡ true → HasNone z (wildcard z name) t → IsTold t
+    → exists z (wildcard z name) ≡ true → HasNone z (wildcard z name) t → IsDeniable t
     → proves_wildcard_no_data z.apex (n ∷ m ∷ []) name t ≡ true
 
 -- of a name that doesn't exist, where a wildcard's records are given for it (section 3.1.3.3)

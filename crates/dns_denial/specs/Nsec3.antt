@@ -13,7 +13,7 @@ use Rattle.dns_zone.specs.Owned.{ZoneState}
 use Rattle.dns_zone.specs.ZoneReply.{exists}
 use Rattle.dns_zone_tree.specs.TreeErrors.{tree_error}
 use Rattle.dns_zone_tree.specs.Wildcards.{star}
-use Rattle.dns_denial.specs.Chains.{IsTold, has_type, is_below_cut, is_record_at, is_told}
+use Rattle.dns_denial.specs.Chains.{IsDeniable, has_type, is_below_cut, is_record_at, is_deniable}
 use Rattle.dns_denial.specs.Denials.{CanBeDenied, HasNone, IsAnswered, IsUnsigned, is_under_dname}
 
 -- the hash, which is the owner's first label in base 32, the flag Opt-Out, the next hash and the types (section 3.1)
@@ -63,7 +63,7 @@ is_delegation3 n = has n 2 && not (has n 6)
 
 -- a type is not among those of the name, nor is CNAME (sections 8.5 to 8.7, and RFC 6840, section 4); type 255 is any
 abbrev pub lacks3 : ℕ → Nsec3State → Bool
-lacks3 t n = not ((nat_eq t 255 && list_any is_told n.types) || (has n t || has n 5))
+lacks3 t n = not ((nat_eq t 255 && list_any is_deniable n.types) || (has n t || has n 5))
     && (if nat_eq t 43 then not (has n 6) else not (is_delegation3 n))
 
 -- ---- all NSEC3s of a reply
@@ -162,7 +162,7 @@ pub record IsChained3 (z : ZoneState) (h : Hashing) (ns : List Nsec3State) : Typ
   pub gap : (n m : Nsec3State) → Contains ns n → Contains ns m → spans m.hash n ≡ false
   -- the types are those that the zone has there
   pub types : (n : Nsec3State) → Contains ns n → (name : List (List ℕ)) → exists z name ≡ true → is_below_cut z name ≡ false
-      → matches3 h name n ≡ true → (t : ℕ) → IsTold t → has n t ≡ has_type z name t
+      → matches3 h name n ≡ true → (t : ℕ) → IsDeniable t → has n t ≡ has_type z name t
 
 -- no NSEC3 has the hash of a name that doesn't exist: else a server must fail (section 7.2.9)
 abbrev pub IsApart : ZoneState → Hashing → List Nsec3State → List (List ℕ) → Type 0

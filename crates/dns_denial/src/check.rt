@@ -4,14 +4,14 @@ ghost use Rattle.std.specs.Prelude.{◌≡◌, ◌+◌, ◌<◌, ◌&&◌, ◌||
 ghost use Rattle.std.specs.List.{list_all, position};
 ghost use Rattle.dns_zone_tree.specs.TreeErrors.{tree_error};
 ghost use Rattle.dns_denial.specs.Nsecs.{AreSorted, NsecState};
-ghost use Rattle.dns_denial.specs.Chains.{IsChained, has_type, is_told, must_have};
+ghost use Rattle.dns_denial.specs.Chains.{IsChained, has_type, is_deniable, must_have};
 ghost use Rattle.dns_denial.specs.Checks.{AreLinked, AreSound, Breaks, IsUnlinked, StandsAt, is_there, is_unfounded, is_unlisted, lists_record, owner_behind};
 
 use crate::chain_error::ChainError;
 use crate::nsec::Nsec;
 use crate::search::last_of;
 use crate::standing::{Standing, standing_of};
-use crate::types::{has_type, is_told, must_have};
+use crate::types::{has_type, is_deniable, must_have};
 use dns_base::Record;
 use dns_name::{Name, OutOfMemory};
 use dns_zone_tree::ZoneTree;
@@ -20,9 +20,9 @@ use std::alloc::Global;
 /// Whether the type of a record is to be listed at its owner.
 fn is_to_list(zone: &ZoneTree, resource: &Record, standing: &Standing<'_>, rtype: u16) -> bool
     requires { StandsAt zone.now resource.now.owner standing.now }
-    ensures { result ≡ (is_told rtype && has_type zone.now resource.now.owner rtype) }
+    ensures { result ≡ (is_deniable rtype && has_type zone.now resource.now.owner rtype) }
 {
-    is_told(rtype) && has_type(zone, &resource.owner, standing, rtype)
+    is_deniable(rtype) && has_type(zone, &resource.owner, standing, rtype)
 }
 
 /// Whether an NSEC is that of a record's owner, and lists the record's type where it is to be listed.
@@ -80,7 +80,7 @@ fn is_there(zone: &ZoneTree, nsec: &Nsec, standing: &Standing<'_>, rtype: u16) -
     requires { StandsAt zone.now nsec.now.owner standing.now }
     ensures { result ≡ is_there zone.now nsec.now rtype }
 {
-    !is_told(rtype) || has_type(zone, nsec.owner(), standing, rtype)
+    !is_deniable(rtype) || has_type(zone, nsec.owner(), standing, rtype)
 }
 
 /// Whether types that an NSEC lists are there.

@@ -1,7 +1,7 @@
 //! Which names of a zone must have an NSEC, and which types it lists.
 
 ghost use Rattle.std.specs.Prelude.{◌≡◌, ◌≢◌, ◌&&◌, ◌||◌, not, nat_eq};
-ghost use Rattle.dns_denial.specs.Chains.{has_type, is_told, must_have};
+ghost use Rattle.dns_denial.specs.Chains.{has_type, is_deniable, must_have};
 ghost use Rattle.dns_denial.specs.Checks.{IsHeld, StandsAt, is_kept, is_placed};
 
 use crate::records::{is_below_cut, is_cut_off, owns, owns_type};
@@ -10,8 +10,8 @@ use dns_name::Name;
 use dns_zone_tree::{ANY, Kinds, ZoneTree};
 
 /// Whether a type's bit says something.
-pub(crate) fn is_told(rtype: u16) -> bool
-    ensures { result ≡ is_told rtype }
+pub(crate) fn is_deniable(rtype: u16) -> bool
+    ensures { result ≡ is_deniable rtype }
 {
     !(rtype == 46 || rtype == 47)
 }

@@ -23,7 +23,7 @@ use Rattle.dns_session.specs.Serving.{Serving}
 use Rattle.dns_session.specs.Slate.{Slate, SlateRequest}
 use Rattle.dns_session.specs.Turns.{answered, ends, hold, queue_reply, reply_to, retimed, turn_request, with_request}
 use Rattle.dns_embed.specs.declared.connection.Connection.{Connection}
-use Rattle.dns_embed.specs.Transactions.{fate_of, giving, hearing, invoker_hearing, queueing}
+use Rattle.dns_embed.specs.Transactions.{enqueued_as, giving, hearing, invoker_hearing, queueing}
 use Rattle.dns_embed.specs.declared.transactions.Heard.TheVariants.{Nothing}
 use Rattle.dns_embed.specs.Turned.{GivesAsTurned, GivesHeldAsTurned, ShowsIn, frame_for, heard_in, heard_of, kept_frame, past_item, shown_by}
 
@@ -71,22 +71,22 @@ framed-either at k m r timeout s true inside = refl
 framed-either at k m r timeout s false true = refl
 framed-either at k m r timeout s false false = refl
 
--- its fate
-fate-either : (i : ConnectionInvoker) (m : List ℕ) (space inside : Bool) → finds_room i ≡ space → is_in_transaction i.status ≡ inside
-    → fate_of (Some m) i ≡ Some (if space then Queued else (if inside then Held else Dropped))
-fate-either i m true inside e d = rw (e) refl
-fate-either i m false true e d = rw (e, d) refl
-fate-either i m false false e d = rw (e, d) refl
+-- its enqueued
+enqueued-either : (i : ConnectionInvoker) (m : List ℕ) (space inside : Bool) → finds_room i ≡ space → is_in_transaction i.status ≡ inside
+    → enqueued_as (Some m) i ≡ Some (if space then Queued else (if inside then Held else Dropped))
+enqueued-either i m true inside e d = rw (e) refl
+enqueued-either i m false true e d = rw (e, d) refl
+enqueued-either i m false false e d = rw (e, d) refl
 
 queued : (at k : ℕ) (x : Option Msg) (r : SlateRequest) (timeout : ℕ) (s : Slate)
     → let i = invoker_in at r.status (timed timeout s) in let frame = option_map (λ (m : Msg). framed (wire m)) x in
-    queue_reply at k x r (timed timeout s) ≡ shown_by k (record r { held = kept_frame (fate_of frame i) frame r.held }) (queueing frame i) s
+    queue_reply at k x r (timed timeout s) ≡ shown_by k (record r { held = kept_frame (enqueued_as frame i) frame r.held }) (queueing frame i) s
 queued at k None r timeout s = refl
 queued at k (Some m) r timeout s =
     let i = invoker_in at r.status (timed timeout s) in
     framed-either at k (framed (wire m)) r timeout s (finds_room i) (is_in_transaction r.status)
     ∙ ap (λ (f : Option Enqueued). shown_by k (record r { held = kept_frame f (Some (framed (wire m))) r.held }) (queueing (Some (framed (wire m))) i) s)
-    (sym (fate-either i (framed (wire m)) (finds_room i) (is_in_transaction r.status) refl refl))
+    (sym (enqueued-either i (framed (wire m)) (finds_room i) (is_in_transaction r.status) refl refl))
 
 -- a frame that is queued leaves how far the request is, the bound and the budget
 abbrev Keeps : ConnectionInvoker → ConnectionInvoker → Type 0
@@ -128,7 +128,7 @@ as-turned answers at k c s r item shows none gives =
     let turns : turn_request answers at k r.held r s ≡ queue_reply at k (reply_to None o a) (answered a r) (retimed a s) =
     ap (λ (h : Option (List ℕ)). turn_request answers at k h r s) none
     ∙ ap (λ (x : Answer). queue_reply at k (reply_to None o x) (answered x r) (retimed x s)) gives in
-    let held = λ (x : ConnectionInvoker). kept_frame (fate_of frame x) frame r.held in
+    let held = λ (x : ConnectionInvoker). kept_frame (enqueued_as frame x) frame r.held in
     let queues : queue_reply at k (reply_to None o a) (answered a r) (retimed a s) ≡ shown_by k (past_item item j.status (held j) r) (queueing frame j) s =
     ap (λ (x : Option Msg). queue_reply at k x (answered a r) (retimed a s)) (replies o item) ∙ queued at k (reply_in o item) (answered a r) timeout s in
     let so-far : shown_by k (past_item item j.status (held j) r) (queueing frame j) s ≡ shown_by k (past_item item (queueing frame j).status (held j) r) (queueing frame j) s =

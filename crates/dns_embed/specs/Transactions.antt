@@ -28,9 +28,9 @@ queueing None i = i
 queueing (Some m) i = offered i m
 
 -- what becomes of it: without room it is Held in a transaction, and else Dropped
-abbrev pub fate_of : Option (List ℕ) → ConnectionInvoker → Option Enqueued
-fate_of None i = None
-fate_of (Some m) i = Some (enqueued_by i m).1
+abbrev pub enqueued_as : Option (List ℕ) → ConnectionInvoker → Option Enqueued
+enqueued_as None i = None
+enqueued_as (Some m) i = Some (enqueued_by i m).1
 
 -- the connection and the request, which is so far, once that is heard, and with the frame
 abbrev pub invoker_hearing : ℕ → InvokerStatus → Heard → Connection → ConnectionInvoker

@@ -20,7 +20,7 @@ use Rattle.dns_session.specs.Turns.{ends, turn_request}
 use Rattle.dns_embed.specs.declared.connection.Connection.{Connection}
 use Rattle.dns_embed.specs.declared.transactions.Heard.{Heard}
 use Rattle.dns_embed.specs.declared.transactions.Heard.TheVariants.{Nothing, Feedback, Failure}
-use Rattle.dns_embed.specs.Transactions.{fate_of, giving, hearing, invoker_hearing, queueing}
+use Rattle.dns_embed.specs.Transactions.{enqueued_as, giving, hearing, invoker_hearing, queueing}
 
 -- what is heard of an item
 abbrev pub heard_in : Option ServiceFeedback → Heard
@@ -68,7 +68,7 @@ GivesAsTurned = (answers : Serving) (at k : ℕ) (c : Connection) (s : Slate) (r
     → ShowsIn c.invoker s → r.held ≡ None → answers.answer r.request r.polls ≡ Ready (Some item)
     → let frame = frame_for r.request.octets item in
     let d = giving at r.status (heard_of item) frame c in
-    let held = kept_frame (fate_of frame (invoker_hearing at r.status (heard_of item) c)) frame r.held in
+    let held = kept_frame (enqueued_as frame (invoker_hearing at r.status (heard_of item) c)) frame r.held in
     (turn_request answers at k r.held r s ≡ shown_by k (past_item item d.invoker.status held r) d.invoker s)
     × ShowsIn d.invoker (turn_request answers at k r.held r s)
 

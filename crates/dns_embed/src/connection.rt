@@ -8,7 +8,7 @@ ghost use Rattle.dns_framing.specs.Invoker.{finds_room, offered};
 ghost use Rattle.dns_framing.specs.Timers.{deadline};
 ghost use Rattle.dns_service.specs.declared.invoker.InvokerStatus.{InvokerStatus as TheStatus};
 ghost use Rattle.dns_embed.specs.Connections.{NextIs, NothingDone, WriteIs, at_moment, configured, is_idle, offering, refusing, untaken, waiting};
-ghost use Rattle.dns_embed.specs.Transactions.{fate_of, frame_in, giving, invoker_given, invoker_hearing};
+ghost use Rattle.dns_embed.specs.Transactions.{enqueued_as, frame_in, giving, invoker_given, invoker_hearing};
 
 use crate::buffer::put;
 use crate::transactions::{Heard, enqueue, frame, frame_in, hear, recount};
@@ -212,7 +212,7 @@ impl Connection {
     ) -> Result<(InvokerStatus, Option<Enqueued>), OutOfMemory>
         requires { length reply.now ≤ 65535 }
         ensures status { IfOk result (λ g. g.0 ≡ (invoker_given at status heard (frame_in reply.now) self.old).status) }
-        ensures fate { IfOk result (λ g. g.1 ≡ fate_of (frame_in reply.now) (invoker_hearing at status heard self.old)) }
+        ensures enqueued { IfOk result (λ g. g.1 ≡ enqueued_as (frame_in reply.now) (invoker_hearing at status heard self.old)) }
         ensures ok { OnOk result (self.new ≡ giving at status heard (frame_in reply.now) self.old) }
         ensures err { OnErr result (self.new ≡ self.old) }
     {
@@ -220,11 +220,11 @@ impl Connection {
         self.invoker.set_moment(at);
         self.invoker.begin(status);
         hear(&mut self.invoker, heard);
-        let fate = enqueue(&mut self.invoker, frame);
+        let enqueued = enqueue(&mut self.invoker, frame);
         let after = self.invoker.status;
         let (was, now) = (is_in_transaction(status), is_in_transaction(after));
         self.transactions = recount(self.transactions, was, now);
-        Ok((after, fate))
+        Ok((after, enqueued))
     }
 
     /// How many frames wait to be written.

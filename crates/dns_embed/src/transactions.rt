@@ -2,7 +2,7 @@
 
 ghost use Rattle.std.specs.Prelude.{◌≡◌, ◌≤◌, length, IfOk};
 ghost use Rattle.dns_framing.specs.Frames.{framed};
-ghost use Rattle.dns_embed.specs.Transactions.{counted, fate_of, frame_in, hearing, queueing};
+ghost use Rattle.dns_embed.specs.Transactions.{counted, enqueued_as, frame_in, hearing, queueing};
 
 use dns_framing::{ConnectionInvoker, ServiceInvoker, is_in_transaction};
 use dns_service::{Enqueued, InvokerStatus, Octets, OutOfMemory, ServiceFeedback};
@@ -32,7 +32,7 @@ pub(crate) fn hear(invoker: &mut ConnectionInvoker, heard: Heard)
 
 /// Queues the frame of a reply, where there is one and it finds room.
 pub(crate) fn enqueue(invoker: &mut ConnectionInvoker, frame: Option<Octets>) -> Option<Enqueued>
-    ensures fate { result ≡ fate_of frame invoker.old }
+    ensures enqueued { result ≡ enqueued_as frame invoker.old }
     ensures queue { invoker.new ≡ queueing frame invoker.old }
 {
     let frame = frame?;

@@ -218,7 +218,7 @@ impl<R: Net + rt::Clock + RandomSource + Copy> Forwarder<R> {
         self.hear_on(number);
     }
 
-    /// What is still there at a port is told again.
+    /// What is still there at a port is registered again.
     fn hear_on(&mut self, number: usize) {
         let token = self.clients.token_of(Source::Socket(number));
         if let Some(Some(port)) = self.ports.get_mut(number) {

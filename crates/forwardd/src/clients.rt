@@ -70,7 +70,7 @@ impl Clients {
         }
     }
 
-    /// What is still there at a listener is told again.
+    /// What is still there at a listener is registered again.
     pub(crate) fn receive_on(&mut self, registry: &Registry, listener: usize) {
         let token = self.token_of(Source::Datagrams(listener));
         if let Some(kept) = self.listeners.get_mut(listener) {
@@ -99,7 +99,7 @@ impl Clients {
         true
     }
 
-    /// What is still there at a listener is told again.
+    /// What is still there at a listener is registered again.
     pub(crate) fn accept_on(&mut self, registry: &Registry, listener: usize) {
         let token = self.token_of(Source::Connections(listener));
         if let Some(kept) = self.listeners.get_mut(listener) {
@@ -112,7 +112,7 @@ impl Clients {
         self.connections.next(number, at)
     }
 
-    /// The connection of a number is told again.
+    /// The connection of a number is registered again.
     pub(crate) fn read_on(&mut self, registry: &Registry, number: usize) {
         let token = self.token_of(Source::Client(number));
         self.connections.read_on(registry, token, number)

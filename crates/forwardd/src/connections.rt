@@ -35,7 +35,7 @@ pub(crate) fn sooner(first: Option<u64>, second: Option<u64>) -> Option<u64> {
     }
 }
 
-/// A stream is told again once it can be read or written.
+/// A stream is registered again once it can be read or written.
 fn register_again(registry: &Registry, token: Token, kept: &mut ClientConnection) {
     let interests = Interest::READABLE | Interest::WRITABLE;
     let stream = kept.connection.stream();
@@ -135,7 +135,7 @@ impl Connections {
         }
     }
 
-    /// The connection of a number is told again under its token.
+    /// The connection of a number is registered again under its token.
     pub(crate) fn read_on(&mut self, registry: &Registry, token: Token, number: usize) {
         if let Some(Some(kept)) = self.kept.get_mut(number) {
             register_again(registry, token, kept);

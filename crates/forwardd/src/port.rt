@@ -71,7 +71,7 @@ impl Port {
         }
     }
 
-    /// What is still there is told again.
+    /// What is still there is registered again.
     pub(crate) fn hear_on(&mut self, registry: &Registry, token: Token) {
         if let Some(socket) = &mut self.socket {
             let _ = registry.reregister(socket, token, Interest::READABLE);

@@ -8,7 +8,7 @@ use Rattle.dns_service.specs.declared.service.ServiceFeedback.TheVariants.{Recon
 use Rattle.dns_embed.specs.declared.connection.Connection.{Connection}
 use Rattle.dns_embed.specs.declared.transactions.Heard.{Heard}
 use Rattle.dns_embed.specs.declared.transactions.Heard.TheVariants.{Nothing as HeardNothing, Feedback, Failure}
-use Rattle.dns_embed.specs.Transactions.{fate_of, frame_in, giving, invoker_given, invoker_hearing}
+use Rattle.dns_embed.specs.Transactions.{enqueued_as, frame_in, giving, invoker_given, invoker_hearing}
 use Rattle.nutscythe_c.specs.declared.kept.Kept.{Kept}
 use Rattle.nutscythe_c.specs.declared.kept.Kept.TheVariants.{Connection as KeptConnection}
 use Rattle.nutscythe_c.specs.declared.status.Status.{Status}
@@ -36,11 +36,11 @@ heard_of n timeout =
     else (if nat_eq n 4 then Some Failure else None))))
 
 -- what became of its reply, if there is one
-abbrev pub fate_status : Option Enqueued → Status
-fate_status None = Done
-fate_status (Some Queued) = Done
-fate_status (Some HeldBack) = Held
-fate_status (Some LetGo) = Dropped
+abbrev pub enqueued_status : Option Enqueued → Status
+enqueued_status None = Done
+enqueued_status (Some Queued) = Done
+enqueued_status (Some HeldBack) = Held
+enqueued_status (Some LetGo) = Dropped
 
 -- a request that isn't done: what is heard is heard, and its reply is queued, held or dropped
 abbrev pub Given : ℕ → InvokerStatus → Heard → List ℕ → Connection → Connection → ℕ → ℕ → Status → Type 0
@@ -48,7 +48,7 @@ Given at state h o c d n n' TooLong = (65535 < length o) × (d ≡ c) × (n' ≡
 Given at state h o c d n n' NoMemory = (d ≡ c) × (n' ≡ n)
 Given at state h o c d n n' t = (length o ≤ 65535) × (d ≡ giving at state h (frame_in o) c)
     × (n' ≡ state_number (invoker_given at state h (frame_in o) c).status)
-    × (t ≡ fate_status (fate_of (frame_in o) (invoker_hearing at state h c)))
+    × (t ≡ enqueued_status (enqueued_as (frame_in o) (invoker_hearing at state h c)))
 
 -- one that ended with an error is done, and nothing is heard of it any more
 abbrev pub GivenTo : ℕ → InvokerStatus → Heard → List ℕ → Connection → Connection → ℕ → ℕ → Status → Type 0

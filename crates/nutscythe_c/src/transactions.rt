@@ -4,7 +4,7 @@ ghost use Rattle.std.specs.Prelude.{◌≡◌};
 ghost use Rattle.nutscythe_c.specs.declared.status.Status.{Status as TheStatus};
 ghost use Rattle.nutscythe_c.specs.Calls.{number};
 ghost use Rattle.nutscythe_c.specs.Objects.{OfFirst};
-ghost use Rattle.nutscythe_c.specs.Transactions.{Given, GivenTo, GivesBy, GivesTo, fate_status, heard_of, state_number, state_of};
+ghost use Rattle.nutscythe_c.specs.Transactions.{Given, GivenTo, GivesBy, GivesTo, enqueued_status, heard_of, state_number, state_of};
 
 use crate::handle::Handle;
 use crate::kept::Kept;
@@ -174,19 +174,19 @@ fn give_going(
         return Status::TooLong;
     }
     match opened.give(alloc, at, state, heard, reply) {
-        Ok((state, fate)) => {
+        Ok((state, enqueued)) => {
             *request = state_number(state);
-            fate_status(fate)
+            enqueued_status(enqueued)
         }
         Err(_) => Status::NoMemory,
     }
 }
 
 /// What became of a reply, if there is one.
-fn fate_status(fate: Option<Enqueued>) -> Status
-    ensures { result ≡ fate_status fate }
+fn enqueued_status(enqueued: Option<Enqueued>) -> Status
+    ensures { result ≡ enqueued_status enqueued }
 {
-    match fate {
+    match enqueued {
         None | Some(Enqueued::Queued) => Status::Done,
         Some(Enqueued::Held) => Status::Held,
         Some(Enqueued::Dropped) => Status::Dropped,
