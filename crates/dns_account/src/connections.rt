@@ -31,7 +31,7 @@ fn ended<
     work: ConnectionWork<Witness<L>, WitnessClock<C>, Silent, W>,
 ) -> (BookSeat, ConnectionEnd, Witness<L>, WitnessClock<C>, Silent)
     requires { (work.seat.book ≡ arc_value work.book) × (work.look.closed ≡ false) × W.can_call (arc_value work.service) }
-    ensures told { EndsSo
+    ensures observed { EndsSo
         (serving (W.answer (arc_value work.service)) (W.hint (arc_value work.service))) result.1 work.client work.addr work.look
         work.journal.events result.4.events work.seat.known result.0.known work.link.seen.traffic result.2.seen.traffic }
     ensures shown { EndShown
@@ -94,7 +94,7 @@ pub fn serve_connection_over<R: Wait, L: Link + Drop, C: Clock + Drop, W: Shared
     requires book { seat.book ≡ book.now }
     requires running { look.now.closed ≡ false }
     requires can_call { W.can_call service.now }
-    ensures told { EndsSo (serving (W.answer service.now) (W.hint service.now)) result.1 client addr look.now
+    ensures observed { EndsSo (serving (W.answer service.now) (W.hint service.now)) result.1 client addr look.now
         [] result.2.events seat.known result.0.known still result.3.seen.traffic }
     ensures shown { EndShown (serving (W.answer service.now) (W.hint service.now)) result.1 client addr look.now
         [] result.2.events still result.3.seen.traffic }

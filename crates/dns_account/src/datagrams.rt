@@ -28,7 +28,7 @@ pub fn serve_datagrams_over<R: Wait, D: AsyncDgramSock + Drop, C: Clock + Drop, 
 ) -> (BookSeat, DgramEnd, Silent, WitnessSock<D>, WitnessClock<C>)
     requires book { seat.book ≡ book.now }
     requires can_call { W.can_call service.now }
-    ensures told { ServedTo (serving (W.answer service.now) (W.hint service.now)) result.1 count
+    ensures observed { ServedTo (serving (W.answer service.now) (W.hint service.now)) result.1 count
         (world [] no_packets (D.failed_sends sock) [] seat.known)
         (world result.2.events result.3.seen.sock_traffic (D.failed_sends result.3.sock) result.4.seen.readings result.0.known) }
     ensures seat { LooksBy result.1 seat.known result.0.known }

@@ -212,7 +212,7 @@ fn ended<
     Silent,
 )
     requires { (work.seat.book ≡ arc_value work.book) × (work.look.closed ≡ false) × W.can_call (arc_value work.service) }
-    ensures told { EndsSo
+    ensures observed { EndsSo
         (serving (W.answer (arc_value work.service)) (W.hint (arc_value work.service))) result.1 work.client work.addr work.look
         work.journal.events result.4.events work.seat.known result.0.known work.link.seen.traffic result.2.seen.traffic }
     ensures shown { EndShown
