@@ -11,7 +11,7 @@ returns-in-Open-clause-follows g c = λ answers client e at_is kind_is.
     let a = request_answer g.W.Future.ReplyFuture.answer g.W.Stream.ReplyStream.answer in
     let w = c.write-outcome in
     led_follows a answers client c.args.state.now c.follow.new.state c.in-Open.connection w.new.self w.result (outputs_in client c.follow.result) (rule answers e) c.in-Open.is
-      (in_leads a answers c.in-Open.connection w.new.self w.result e (rw (kind_is, at_is) (w.ensures answers))) (c.follow.ensures.outs client) c.follow.ensures.state
+    (in_leads a answers c.in-Open.connection w.new.self w.result e (rw (kind_is, at_is) (w.ensures answers))) (c.follow.ensures.outs client) c.follow.ensures.state
 
 pub returns-in-Flushing-clause-follows : goal.returns-in-Flushing-clause-follows
 returns-in-Flushing-clause-follows g c = λ answers client e at_is kind_is.
@@ -19,7 +19,7 @@ returns-in-Flushing-clause-follows g c = λ answers client e at_is kind_is.
     let w = c.write-outcome-in-Flushing in
     let o = c.follow-in-Flushing in
     left_follows a answers client c.args.state.now o.new.state c.in-Flushing.connection w.new.self w.result (outputs_in client o.result) (rule answers e) c.in-Flushing.is
-      (in_leads_on answers c.in-Flushing.connection w.new.self w.result e (rw kind_is w.ensures)) (o.ensures.outs client) o.ensures.state
+    (in_leads_on answers c.in-Flushing.connection w.new.self w.result e (rw kind_is w.ensures)) (o.ensures.outs client) o.ensures.state
 
 pub returns-in_default-clause-follows : goal.returns-in_default-clause-follows
 returns-in_default-clause-follows g c = λ answers client e at_is kind_is.
