@@ -33,7 +33,8 @@ pub(crate) fn closed_behind(sent: &Sent) -> Option<Why>
     ensures { (client : ℕ) → result ≡ closed_by (outputs_in client sent.now) }
 {
     match sent {
-        Sent::Last(_, why) | Sent::Closed(why) => Some(*why),
+        Sent::Last(_, why) => Some(*why),
+        Sent::Closed(why) => Some(*why),
         Sent::Nothing | Sent::Frame(_) => None,
     }
 }
