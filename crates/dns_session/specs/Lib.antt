@@ -27,4 +27,5 @@ pub mod Unfinished
 pub mod Stands
 pub mod Spent
 pub mod Goings
+pub mod Outputs
 pub mod Pieces

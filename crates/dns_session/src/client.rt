@@ -2,10 +2,13 @@
 
 ghost use Rattle.std.specs.Prelude.{◌≡◌, ◌≤◌, ℕ, [], true, false, length, slice_get, option_map, None, IfOk, OnOk, OnErr};
 ghost use Rattle.std.specs.Result.{IsOkAnd};
+ghost use Rattle.dns_events.specs.declared.event.Event.{Event};
+ghost use Rattle.dns_events.specs.declared.event.EventKind.{EventKind};
 ghost use Rattle.dns_session.specs.Serving.{Serving, serving};
 ghost use Rattle.dns_session.specs.Slate.{Slate, IsUnused, conf_of, phase_is_closed};
 ghost use Rattle.dns_session.specs.Datagrams.{datagram, datagrams_to};
 ghost use Rattle.dns_session.specs.Connections.{opened};
+ghost use Rattle.dns_session.specs.Outputs.{outputs_in};
 ghost use Rattle.dns_session.specs.Rule.{rule};
 ghost use Rattle.dns_session.specs.After.{slate_after};
 ghost use Rattle.dns_session.specs.News.{look_effect, new_configurations};
@@ -19,7 +22,8 @@ use crate::exchange::{BegunExchange, begin_cut, datagrams_to};
 use crate::flushing::FlushingConnection;
 use crate::kept::KeptRequest;
 use crate::requests::cut_datagram;
-use crate::states::{lose, shut_down, step_state};
+use crate::sent::Sent;
+use crate::states::{lose, piece_state, shut_down, step_state, write_state};
 use dns_admission::Look;
 use dns_base::SocketAddr;
 use dns_events::{Event, Output};
@@ -152,6 +156,49 @@ impl<W: SharedService> ClientCore<W> {
                 Err(error)
             }
         }
+    }
+
+    /// Octets of the stream came, at a moment in ms and seconds. It does as `step` by a Piece of them, and makes neither an event
+    /// nor a list.
+    pub fn piece(
+        &mut self,
+        alloc: Global,
+        service: &W,
+        at: u64,
+        secs: u64,
+        octets: &[u8],
+    ) -> Result<Sent, OutOfMemory>
+        requires { W.can_call service.now }
+        // By each event of these octets at this moment, at each slate that the core stands for, it sends what the rule says.
+        ensures follows { IfOk result (λ sent. (e : Event) → e.at ≡ at → e.secs ≡ secs → e.kind ≡ EventKind.Piece octets.now
+            → GoesAs (request_answer W.Future.answer W.Stream.answer) (serving (W.answer service.now) (W.hint service.now)) self.old self.new (outputs_in self.old.client sent)
+            (rule (serving (W.answer service.now) (W.hint service.now)) e)) }
+        ensures client { self.new.client ≡ self.old.client }
+        ensures version { self.new.version ≡ self.old.version }
+        // Want of memory, and what comes after it.
+        ensures loses { OnErr result (IsLost self.new) }
+        ensures lost { IsLost self.old → IsOkAnd result (λ sent. sent ≡ Sent.Nothing) × IsLost self.new }
+    {
+        match piece_state(&mut self.state, alloc, service, at, secs, octets) {
+            Ok(sent) => Ok(sent),
+            Err(error) => {
+                lose(&mut self.state);
+                Err(error)
+            }
+        }
+    }
+
+    /// The frame that is written next was written at a moment in ms, which took so many ms. It does as `step` by a Write, makes
+    /// neither an event nor a list, and takes no memory.
+    pub fn write(&mut self, at: u64, took: u64) -> Sent
+        // By each such event, at each slate that the core stands for, it sends what the rule says.
+        ensures follows { (answers : Serving) (e : Event) → e.at ≡ at → e.kind ≡ EventKind.Write took
+            → GoesAs (request_answer W.Future.answer W.Stream.answer) answers self.old self.new (outputs_in self.old.client result) (rule answers e) }
+        ensures client { self.new.client ≡ self.old.client }
+        ensures version { self.new.version ≡ self.old.version }
+        ensures lost { IsLost self.old → (result ≡ Sent.Nothing) × IsLost self.new }
+    {
+        write_state(&mut self.state, at, took)
     }
 
     /// An open connection hears configurations, where their version is new.

@@ -242,7 +242,7 @@ impl<W: SharedService> OpenConnection<W> {
     }
 
     /// Octets of the stream came.
-    fn piece(
+    pub fn piece(
         &mut self,
         alloc: Global,
         service: &W,
@@ -263,7 +263,7 @@ impl<W: SharedService> OpenConnection<W> {
     }
 
     /// Writes the front frame. An emptied queue resets the timer.
-    fn write(&mut self, at: u64, took: u64) -> Outcome
+    pub fn write(&mut self, at: u64, took: u64) -> Outcome
         ensures { (answers : Serving)
             → Leads (request_answer W.Future.answer W.Stream.answer) answers self.old self.new result (λ s. write at took s.queue s) }
     {

@@ -23,7 +23,7 @@ impl FlushingConnection {
     ghost use Rattle.dns_session.specs.Goings.{LeadsOn};
 
     /// Writes the front frame. The last one closes the connection.
-    fn write(&mut self, took: u64) -> Outcome
+    pub fn write(&mut self, took: u64) -> Outcome
         ensures { LeadsOn self.old self.new result (λ s. flush self.old.why took s.queue s) }
     {
         let Some(octets) = self.queue.pop_front() else {

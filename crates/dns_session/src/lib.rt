@@ -8,6 +8,7 @@
 //! - `ClientCore::datagram` begins an exchange and `ClientCore::admit` a connection, by what a look at the book
 //!   shows.
 //! - `ClientCore::step` hears an event: a piece, a turn, a write, a tick, an end ..
+//! - `ClientCore::piece` and `write` hear octets and a write without an event, and answer without a list.
 //! - `ClientCore::saw` hears what a look shows: new configurations, a shutdown.
 //! - `front_frame`, `first_unfinished`, `next_unfinished`, `idle_left`, `is_closed` say what a loop has to do next.
 //! - `begin_exchange` and `KeptRequest::turn` do for an exchange what a core does, without one.
@@ -41,6 +42,7 @@ mod laws;
 mod outcome;
 mod polling;
 mod requests;
+mod sent;
 mod states;
 mod unfinished;
 
@@ -50,3 +52,4 @@ pub use exchange::{BegunExchange, begin_exchange};
 pub use kept::{KeptRequest, answered, refused};
 pub use laws::{frames_go_on, pieces_may_be_cut, spent_clients_are_sent_nothing};
 pub use requests::{cut_given, datagram_of, datagram_request};
+pub use sent::Sent;

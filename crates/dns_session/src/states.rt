@@ -2,17 +2,20 @@
 
 ghost use Rattle.std.specs.Prelude.{◌≡◌, ℕ, [], ◌∷◌, IfOk, false};
 ghost use Rattle.std.specs.Result.{IsOkAnd};
+ghost use Rattle.dns_events.specs.declared.event.Event.{Event};
 ghost use Rattle.dns_session.specs.News.{wide};
 ghost use Rattle.dns_session.specs.Rule.{rule};
 ghost use Rattle.dns_session.specs.Serving.{Serving, serving};
 ghost use Rattle.dns_session.specs.Slate.{Slate};
 ghost use Rattle.dns_session.specs.Goings.{StateGoes, outputs_of, state_behind, wound_up};
+ghost use Rattle.dns_session.specs.Outputs.{outputs_in};
 ghost use Rattle.dns_session.specs.Stands.{IsClosed, state_is_open};
 ghost use Rattle.dns_framing.specs.PolledRequest.{request_answer};
 
 use crate::client::State;
 use crate::exchange::{exchange_step, one};
 use crate::outcome::Outcome;
+use crate::sent::Sent;
 use dns_events::{Event, EventKind, Output, Why};
 use dns_framing::SharedService;
 use dns_name::{Octets, OutOfMemory};
@@ -71,36 +74,49 @@ fn last(alloc: Global, client: u64, octets: Octets, why: Why) -> Result<Vec<Outp
     Ok(outs)
 }
 
-/// The last frame is written, and the connection closed behind it. Nothing is kept of it but its number.
-fn close_behind<W: SharedService>(
-    state: &mut State<W>,
-    alloc: Global,
-    client: u64,
-    octets: Octets,
-    why: Why,
-) -> Result<Vec<Output>, OutOfMemory>
-    ensures outs { IfOk result (λ outs. outs.items ≡ Output.Frame client octets ∷ Output.Closed client why ∷ []) }
-    ensures state { state.new ≡ State.Closed false }
-{
-    set(state, State::Closed { freed: false });
-    last(alloc, client, octets, why)
-}
-
 /// The connection is closed. Nothing is kept of it but its number.
-fn close<W: SharedService>(
-    state: &mut State<W>,
-    alloc: Global,
-    client: u64,
-    why: Why,
-) -> Result<Vec<Output>, OutOfMemory>
-    ensures outs { IfOk result (λ outs. outs.items ≡ Output.Closed client why ∷ []) }
-    ensures state { state.new ≡ State.Closed false }
+fn close<W: SharedService>(state: &mut State<W>)
+    ensures { state.new ≡ State.Closed false }
 {
     set(state, State::Closed { freed: false });
-    one(alloc, Output::Closed { client, why })
 }
 
-/// What a client is sent for an outcome.
+/// What a connection is sent for an outcome, which its state follows.
+fn follow<W: SharedService>(state: &mut State<W>, outcome: Outcome) -> Sent
+    ensures outs { (client : ℕ) → outputs_in client result ≡ outputs_of client outcome }
+    ensures state { state.new ≡ state_behind state.old outcome }
+{
+    match outcome {
+        Outcome::Nothing => Sent::Nothing,
+        Outcome::Written(octets) => Sent::Frame(octets),
+        Outcome::WrittenLast(octets, why) => {
+            close(state);
+            Sent::Last(octets, why)
+        }
+        Outcome::WindsUp(why) => {
+            wind_up(state, why);
+            Sent::Nothing
+        }
+        Outcome::Ends(why) => {
+            close(state);
+            Sent::Closed(why)
+        }
+    }
+}
+
+/// What a client is sent, as a list.
+fn listed(alloc: Global, client: u64, sent: Sent) -> Result<Vec<Output>, OutOfMemory>
+    ensures { IfOk result (λ outs. outs.items ≡ outputs_in client sent) }
+{
+    match sent {
+        Sent::Nothing => Ok(Vec::new(alloc)),
+        Sent::Frame(octets) => one(alloc, Output::Frame { client, octets }),
+        Sent::Last(octets, why) => last(alloc, client, octets, why),
+        Sent::Closed(why) => one(alloc, Output::Closed { client, why }),
+    }
+}
+
+/// What a client is sent for an outcome, as a list.
 fn carry_out<W: SharedService>(
     state: &mut State<W>,
     alloc: Global,
@@ -110,15 +126,50 @@ fn carry_out<W: SharedService>(
     ensures outs { IfOk result (λ outs. outs.items ≡ outputs_of client outcome) }
     ensures state { state.new ≡ state_behind state.old outcome }
 {
-    match outcome {
-        Outcome::Nothing => Ok(Vec::new(alloc)),
-        Outcome::Written(octets) => one(alloc, Output::Frame { client, octets }),
-        Outcome::WrittenLast(octets, why) => close_behind(state, alloc, client, octets, why),
-        Outcome::WindsUp(why) => {
-            wind_up(state, why);
-            Ok(Vec::new(alloc))
+    let sent = follow(state, outcome);
+    listed(alloc, client, sent)
+}
+
+/// Octets of a client's stream came. Of one that is no open connection they change nothing.
+pub(crate) fn piece_state<W: SharedService>(
+    state: &mut State<W>,
+    alloc: Global,
+    service: &W,
+    at: u64,
+    secs: u64,
+    octets: &[u8],
+) -> Result<Sent, OutOfMemory>
+    requires { W.can_call service.now }
+    ensures follows { IfOk result (λ sent. (client : ℕ) (e : Event) → e.at ≡ at → e.secs ≡ secs → e.kind ≡ EventKind.Piece octets.now
+        → StateGoes (request_answer W.Future.answer W.Stream.answer) (serving (W.answer service.now) (W.hint service.now)) client state.old state.new (outputs_in client sent)
+        (rule (serving (W.answer service.now) (W.hint service.now)) e)) }
+    ensures lost { state.old ≡ State.Lost → IsOkAnd result (λ sent. sent ≡ Sent.Nothing) × (state.new ≡ State.Lost) }
+{
+    match state {
+        State::Open(connection) => match connection.piece(alloc, service, at, secs, octets) {
+            Ok(outcome) => Ok(follow(state, outcome)),
+            Err(error) => Err(error),
+        },
+        _ => Ok(Sent::Nothing),
+    }
+}
+
+/// The front frame of a client was written, or took too long.
+pub(crate) fn write_state<W: SharedService>(state: &mut State<W>, at: u64, took: u64) -> Sent
+    ensures follows { (answers : Serving) (client : ℕ) (e : Event) → e.at ≡ at → e.kind ≡ EventKind.Write took
+        → StateGoes (request_answer W.Future.answer W.Stream.answer) answers client state.old state.new (outputs_in client result) (rule answers e) }
+    ensures lost { state.old ≡ State.Lost → (result ≡ Sent.Nothing) × (state.new ≡ State.Lost) }
+{
+    match state {
+        State::Open(connection) => {
+            let outcome = connection.write(at, took);
+            follow(state, outcome)
         }
-        Outcome::Ends(why) => close(state, alloc, client, why),
+        State::Flushing(connection) => {
+            let outcome = connection.write(took);
+            follow(state, outcome)
+        }
+        _ => Sent::Nothing,
     }
 }
 

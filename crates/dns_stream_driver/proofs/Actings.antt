@@ -5,15 +5,18 @@ use Rattle.dns_io.specs.Causes.{Observed}
 use Rattle.dns_io.specs.Traffic.{Traffic}
 use Rattle.dns_service.specs.Answer.{Answer}
 use Rattle.dns_events.specs.declared.event.Event.{Event}
+use Rattle.dns_events.specs.declared.event.Output.{Output}
 use Rattle.dns_events.specs.declared.event.Why.{Why}
 use Rattle.dns_service.specs.declared.polled.PolledRequest.{PolledRequest}
 use Rattle.dns_session.specs.Serving.{Serving}
 use Rattle.dns_session.specs.Slate.{Slate}
-use Rattle.dns_session.specs.Stands.{Stands, waiting}
+use Rattle.dns_session.specs.Rule.{rule}
+use Rattle.dns_session.specs.Stands.{Stands, GoesAs, waiting}
 use Rattle.dns_session.specs.declared.client.ClientCore.{ClientCore}
 use Rattle.dns_recorder.specs.Clocks.{ClockReading, Timed, TimedOne}
 use Rattle.dns_recorder.proofs.Timings.{timed_noted}
 use Rattle.dns_stream_driver.specs.Blames.{Blames, WroteWhole, WroteFirst, ChosenFor, NotedWrite, ActedFor}
+use Rattle.dns_stream_driver.specs.Closing.{closed_by}
 use Rattle.dns_stream_driver.specs.Links.{MovedBy, IsReadEvent}
 use Rattle.dns_stream_driver.specs.Rounds.{turned, next_turn}
 use Rattle.dns_stream_driver.specs.Steps.{Chosen, TakesEvent, NotedOrNot, Acted, ActedPart}
@@ -67,3 +70,8 @@ module _ {W R F : Type 0} (answer : PolledRequest F R → ℕ → Answer) (answe
       ChosenFor answer below core event f f' → IfOk r (λ why. TakesEvent answer answers core core' event why) → IfOk r (λ why. ActedFor answer answers why core core' f f')
   acted_blame (Ok why) event below core core' f f' c k = record { below = below; event = event; chosen = c; taken = k }
   acted_blame (Err e) event below core core' f f' c k = tt
+
+  -- an event was taken, by what was sent for it
+  pub takes : (core core' : ClientCore W R F) (event : Event) (outs : List Output) (why : Option Why) →
+      GoesAs answer answers core core' outs (rule answers event) → core'.version ≡ core.version → closed_by outs ≡ why → TakesEvent answer answers core core' event why
+  takes core core' event outs why f v c = record { outs = outs; follows = f; version = v; closed = c }

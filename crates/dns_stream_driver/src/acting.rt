@@ -1,6 +1,7 @@
 //! One own event.
 
 ghost use Rattle.std.specs.Prelude.{◌≡◌, ◌≤◌, IfOk, OnErr, None, slice_get};
+ghost use Rattle.dns_events.specs.declared.event.Event.{Event};
 ghost use Rattle.dns_io.specs.Causes.{Observed};
 ghost use Rattle.dns_session.specs.Serving.{Serving, serving};
 ghost use Rattle.dns_session.specs.Slate.{Slate};
@@ -11,7 +12,7 @@ ghost use Rattle.dns_stream_driver.specs.Blames.{NotedWrite, ActedFor, OwnEvent}
 ghost use Rattle.dns_stream_driver.specs.Rounds.{below_of, next_turn, turned};
 ghost use Rattle.dns_stream_driver.specs.Steps.{TakesEvent, NotedOrNot, Acted, ActedPart};
 
-use crate::closing::closed_by;
+use crate::closing::{closed_behind, closed_by};
 use crate::reading::{ROOM, read_event};
 use crate::turn_state::TurnState;
 use crate::writing::write_event;
@@ -22,8 +23,36 @@ use dns_session::ClientCore;
 use std::alloc::Global;
 use std::sync::Wait;
 
-/// Gives the event to the core. The answer is why the connection is closed by that, if it is.
-fn step<W: SharedService>(
+/// Octets that came are given to the core. The answer is why the connection is closed by that, if it is.
+fn take_piece<W: SharedService>(
+    alloc: Global,
+    core: &mut ClientCore<W>,
+    service: &W,
+    at: u64,
+    secs: u64,
+    octets: &[u8],
+) -> Result<Option<Why>, OutOfMemory>
+    requires { W.can_call service.now }
+    ensures { IfOk result (λ why. (e : Event) → e.at ≡ at → e.secs ≡ secs → e.kind ≡ EventKind.Piece octets.now
+        → TakesEvent (request_answer W.Future.answer W.Stream.answer) (serving (W.answer service.now) (W.hint service.now)) core.old core.new e why) }
+{
+    match core.piece(alloc, service, at, secs, octets) {
+        Ok(sent) => Ok(closed_behind(&sent)),
+        Err(error) => Err(error),
+    }
+}
+
+/// A frame that was written is taken off the core's queue. The answer is why the connection is closed by that, if it is.
+fn take_write<W: SharedService>(core: &mut ClientCore<W>, at: u64, took: u64) -> Option<Why>
+    ensures { (answers : Serving) (e : Event) → e.at ≡ at → e.kind ≡ EventKind.Write took
+        → TakesEvent (request_answer W.Future.answer W.Stream.answer) answers core.old core.new e result }
+{
+    let sent = core.write(at, took);
+    closed_behind(&sent)
+}
+
+/// Any other event is given to the core. The answer is why the connection is closed by that, if it is.
+fn take_other<W: SharedService>(
     alloc: Global,
     core: &mut ClientCore<W>,
     service: &W,
@@ -35,6 +64,26 @@ fn step<W: SharedService>(
     let outs = core.step(alloc, service, event)?;
     let why = closed_by(&outs);
     Ok(why)
+}
+
+/// Gives the event to the core. The answer is why the connection is closed by that, if it is.
+fn step<W: SharedService>(
+    alloc: Global,
+    core: &mut ClientCore<W>,
+    service: &W,
+    event: &Event,
+) -> Result<Option<Why>, OutOfMemory>
+    requires { W.can_call service.now }
+    ensures { IfOk result (λ why. TakesEvent (request_answer W.Future.answer W.Stream.answer) (serving (W.answer service.now) (W.hint service.now)) core.old core.new event.now why) }
+{
+    match &event.kind {
+        EventKind::Piece(octets) => {
+            let octets = octets.as_slice();
+            take_piece(alloc, core, service, event.at, event.secs, octets)
+        }
+        EventKind::Write { took } => Ok(take_write(core, event.at, *took)),
+        _ => take_other(alloc, core, service, event),
+    }
 }
 
 /// Notes the event, and then gives it to the core. The answer is why the connection is closed by that, if it is.

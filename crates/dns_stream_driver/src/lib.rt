@@ -19,8 +19,8 @@
 //!
 //! # What a body could still get away with
 //!
-//! That a wait waits, and how long. Over a machine's link only what is said as always. A body could read fewer octets a
-//! call than there are.
+//! That a wait waits, and how long. Over a machine's link only what is said as always, unless a witness stands over it
+//! (dns_witness). A body could read fewer octets a call than there are.
 #![tactic(auto)]
 
 mod acting;

@@ -23,7 +23,8 @@
 //!
 //! # What a body could still get away with
 //!
-//! Count nothing, call no hook, or join no work; tests show these. What is written to connections over real sockets.
+//! Count nothing, call no hook, or join no work; tests show these. What is written to connections over real sockets,
+//! unless witnesses stand over them (dns_witness).
 #![tactic(auto)]
 
 mod buf;
