@@ -285,6 +285,7 @@ impl Draft {
     }
 
     /// Drops the additional records of a type.
+    #[inline(always)]
     pub(crate) fn remove_type(&mut self, rtype: Rtype)
         ensures { self.new ≡ less_type rtype self.old }
     {

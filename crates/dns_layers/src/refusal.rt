@@ -19,6 +19,7 @@ pub enum Refusal {
 }
 
 /// What is asked with a request.
+#[inline(always)]
 pub fn read_request<Meta>(request: &Request<Meta>) -> Asked
     ensures { result ≡ asked_of request.now.octets }
 {

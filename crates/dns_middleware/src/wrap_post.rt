@@ -53,6 +53,7 @@ impl WrapPost {
 impl Rewrite for WrapPost {
     ghost rewriting = { wrap_by };
 
+    #[inline(always)]
     fn rewrite(&self, alloc: Global, reply: &mut AdditionalBuilder) -> Result<(), OutOfMemory> {
         if self.speaks_edns {
             self.edns.rewrite(alloc, reply)?;

@@ -113,6 +113,7 @@ fn cookie_reply_or_next<S: Service<Meta>, N: Notifiable, Meta>(
 }
 
 /// How a request is passed on, of which this was read.
+#[inline(always)]
 pub fn pass_plan<Meta>(settings: &Settings, asked: &Asked, request: &Request<Meta>) -> PassPlan
     ensures size { result.size ≡ size_by settings.now asked.now }
     ensures post { result.post ≡ rule_passed settings.now request.now.transport asked.now }

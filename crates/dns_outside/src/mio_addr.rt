@@ -54,6 +54,7 @@ fn ip_from_std(ip: net::IpAddr) -> IpAddr
 
 /// An address of std. An IPv4 address within IPv6, as a socket of both gives it, is the IPv4 address (RFC 4291, section
 /// 2.5.5.2).
+#[inline(never)]
 pub(crate) fn from_std(addr: net::SocketAddr) -> SocketAddr
     ensures { AddrIsCanonical addr result }
 {

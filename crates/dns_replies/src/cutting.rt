@@ -1,6 +1,6 @@
 //! Truncation of a message that has too many octets.
 
-ghost use Rattle.std.specs.Prelude.{◌≡◌, ◌≤◌, [], ◌∷◌, ℕ, IfOk, OnOk, OnErr, length};
+ghost use Rattle.std.specs.Prelude.{◌≡◌, ◌≤◌, ◌<◌, [], ◌∷◌, ℕ, IfOk, OnOk, OnErr, length};
 ghost use Rattle.dns_base.specs.Built.{with_additional, with_question};
 ghost use Rattle.dns_base.specs.Msg.{IsMessage, Msg};
 ghost use Rattle.dns_base.specs.Readers.{readable_items};
@@ -20,6 +20,7 @@ use dns_name::OutOfMemory;
 use std::alloc::Global;
 
 /// Truncates a message that has more than so many octets (RFC 6891, section 7). A message that has no more isn't copied.
+#[inline(always)]
 pub fn cut(alloc: Global, message: &mut AdditionalBuilder, limit: usize) -> Result<(), OutOfMemory>
     ensures ok { OnOk result (message.new ≡ cut_built limit message.old) }
     ensures err { OnErr result (message.new ≡ message.old) }
@@ -27,6 +28,21 @@ pub fn cut(alloc: Global, message: &mut AdditionalBuilder, limit: usize) -> Resu
     if message.as_slice().len() <= limit {
         return Ok(());
     }
+    cut_longer(alloc, message, limit)
+}
+
+/// Truncates a message that has more than so many octets.
+#[inline(never)]
+fn cut_longer(
+    alloc: Global,
+    message: &mut AdditionalBuilder,
+    limit: usize,
+) -> Result<(), OutOfMemory>
+    requires { limit < length (wire message.old.message) }
+    ensures ok { OnOk result (message.new ≡ cut_built limit message.old) }
+    ensures err { OnErr result (message.new ≡ message.old) }
+{
+    let _message = message.as_slice();
     let mut shorter = shortened(alloc, message, limit)?;
     shorter.set_push_limit(message.push_limit());
     *message = shorter;

@@ -96,6 +96,7 @@ impl AskedOpt {
 }
 
 /// Reads a request. Each of its records is read once.
+#[inline(always)]
 pub fn read_asked(message: &Message) -> Asked
     ensures { result ≡ asked_of message.now }
 {
@@ -111,12 +112,21 @@ pub fn read_asked(message: &Message) -> Asked
 
 /// What a message has for an OPT record.
 #[tactic(auto, using(crate::proofs::AskedLaws::none_stated))]
+#[inline(always)]
 fn asked_opt(message: &Message) -> AskedOpt
     ensures { result ≡ asked_opt (opt_items message.now) }
 {
     if message.header_counts().arcount == 0 {
         return AskedOpt::NoItem;
     }
+    stated_opt(message)
+}
+
+/// What a message has for an OPT record, by its additional records.
+#[inline(never)]
+fn stated_opt(message: &Message) -> AskedOpt
+    ensures { result ≡ asked_opt (opt_items message.now) }
+{
     match message.additional() {
         Ok(records) => first_among(records),
         Err(_) => AskedOpt::NoItem,

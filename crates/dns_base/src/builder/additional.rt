@@ -29,6 +29,7 @@ impl AdditionalBuilder {
     }
 
     /// Drops the additional records of a type; the others stay, in order. Takes no memory.
+    #[inline(always)]
     pub fn remove_type(&mut self, rtype: Rtype)
         ensures { self.new ≡ less_type rtype self.old }
     {

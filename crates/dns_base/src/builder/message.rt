@@ -14,6 +14,7 @@ use std::marker::PhantomData;
 
 impl MessageBuilder {
     /// The empty message with a zero header, which may take 65,535 octets.
+    #[inline(always)]
     pub fn new(alloc: Global) -> Result<MessageBuilder, OutOfMemory>
         ensures { IfOk result (λ b. b ≡ record { message = empty; limit = 65535 }) }
     {
@@ -26,6 +27,7 @@ impl MessageBuilder {
 
     /// Begins the answer to a query: its identifier, opcode, RD and questions are copied, up to the first
     /// unreadable question, and QR and the response code are set.
+    #[inline(always)]
     pub fn start_answer(
         self,
         alloc: Global,

@@ -15,6 +15,7 @@ use std::alloc::Global;
 impl Draft {
     /// Adds the questions of a message up to its first unreadable one, as far as each has room. Behind a header alone
     /// they are added in one where they stand as they are written and all have room.
+    #[inline(always)]
     pub(crate) fn copy_questions(
         &mut self,
         alloc: Global,
@@ -47,6 +48,7 @@ impl Draft {
     }
 
     /// Adds questions that stand up to a place of a message as they are written, behind a header alone.
+    #[inline(always)]
     fn copy_standing(&mut self, message: &[u8], end: usize) -> Result<(), PushError>
         requires records { NoRecords self.old.message }
         requires header_alone { length (wire self.old.message) ≡ 12 }
