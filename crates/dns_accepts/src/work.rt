@@ -47,8 +47,17 @@ impl<L, C, J, W: SharedService> ConnectionWork<L, C, J, W> {
         requires book { seat.book ≡ arc_value book }
         requires running { look.closed ≡ false }
         requires can_call { W.can_call (arc_value service) }
-        ensures { result ≡ record { book = book; seat = seat; client = client; addr = addr; look = look; service = service;
-            link = link; clock = clock; journal = journal } }
+        ensures { result ≡ record {
+          book = book;
+          seat = seat;
+          client = client;
+          addr = addr;
+          look = look;
+          service = service;
+          link = link;
+          clock = clock;
+          journal = journal;
+        } }
     {
         ConnectionWork {
             book,

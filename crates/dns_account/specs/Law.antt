@@ -34,7 +34,7 @@ pub record ByTheRules (answers : Serving) (end : ConnectionEnd) (client : ℕ) (
   pub handed : t'.went ≡ t.went ++ (frame_octets (sent_after answers (began client addr at look) events) ++ part)
   pub cut : IsFrontCut (slate_after answers (began client addr at look) events).queue part
       ⊎ Extra (closed_by (sent_after answers (began client addr at look) events))
-          (slate_after answers (began client addr at look) (all_but_last events)).queue part
+      (slate_after answers (began client addr at look) (all_but_last events)).queue part
 
 -- or memory ran out before the Offer, and nothing was read or written
 abbrev pub KeptToTheRules : Serving → ConnectionEnd → ℕ → SocketAddr → Look → List Event → List Event → Traffic → Traffic → Type 0

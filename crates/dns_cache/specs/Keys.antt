@@ -39,15 +39,17 @@ same_parts : (a b : AskedKey) → Decides (same_key a b)
 same_parts a b =
     Decides-and _ _ (same_names a.name b.name)
     (Decides-and _ _ (unsigned_Decides a.qtype b.qtype)
-        (Decides-and _ _ (unsigned_Decides a.qclass b.qclass) (booleans_Decides a.dnssec_ok b.dnssec_ok)))
+    (Decides-and _ _ (unsigned_Decides a.qclass b.qclass) (booleans_Decides a.dnssec_ok b.dnssec_ok)))
 
 -- keys are the same exactly where they are equal
 pub same_key_Decides : (a b : AskedKey) → Decides (same_key a b) (a ≡ b)
 same_key_Decides a b =
     let d = same_parts a b in (
       λ h. let p = d.0 h in λ i. record { name = p.0 i; qtype = p.1.0 i; qclass = p.1.1.0 i; dnssec_ok = p.1.1.1 i },
-      λ e. d.1 (ap (λ (k : AskedKey). k.name) e,
-          (ap (λ (k : AskedKey). k.qtype) e, (ap (λ (k : AskedKey). k.qclass) e, ap (λ (k : AskedKey). k.dnssec_ok) e))),
+      λ e. d.1 (
+        ap (λ (k : AskedKey). k.name) e,
+        (ap (λ (k : AskedKey). k.qtype) e, (ap (λ (k : AskedKey). k.qclass) e, ap (λ (k : AskedKey). k.dnssec_ok) e)),
+      ),
     )
 
 -- a key is hashed by the octets of its name, and its type

@@ -121,7 +121,7 @@ module _ (answers : Serving) where
   drops at r s =
       let a = answers.answer r.request r.polls in
       not r.done && (not (is_some r.held) && (is_some (sent_for answers r.request a)
-          && (not (room at s) && not (is_in_transaction (answered a r).status))))
+      && (not (room at s) && not (is_in_transaction (answered a r).status))))
 
   abbrev pub dropped_of : ℕ → ℕ → Option SlateRequest → Slate → List Origin
   dropped_of at k None s = []

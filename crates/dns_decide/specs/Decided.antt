@@ -47,4 +47,4 @@ abbrev pub AnswersNotice : {V Meta : Type 0} → (V → ℕ → PolledVerdict) �
     → Option Notice → Decision V → Type 0
 AnswersNotice {V} {Meta} verdict p tgt r notice d = (svc : Req Meta → ℕ → Answer) (k : ℕ)
     → decided verdict (svc (passed_by p.size r)) d k
-        ≡ each_rewritten p.post (λ j. notify_by tgt (λ q. svc (passed_by p.size q)) r j notice) k
+    ≡ each_rewritten p.post (λ j. notify_by tgt (λ q. svc (passed_by p.size q)) r j notice) k

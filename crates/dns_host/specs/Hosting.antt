@@ -75,8 +75,17 @@ pub record HostWorld : Type 0 where
 
 abbrev pub host_world : AcceptTraffic → List SocketAddr → List Event → SockTraffic → List ClockReading → ℕ → ℕ → ℕ → ℕ → HostWorld
 host_world accept_traffic given noted sock_traffic readings failed_accepts refused_starts failed_receives failed_sends =
-    record { accept_traffic = accept_traffic; given = given; noted = noted; sock_traffic = sock_traffic; readings = readings;
-        failed_accepts = failed_accepts; refused_starts = refused_starts; failed_receives = failed_receives; failed_sends = failed_sends }
+    record {
+      accept_traffic = accept_traffic;
+      given = given;
+      noted = noted;
+      sock_traffic = sock_traffic;
+      readings = readings;
+      failed_accepts = failed_accepts;
+      refused_starts = refused_starts;
+      failed_receives = failed_receives;
+      failed_sends = failed_sends;
+    }
 
 -- what the serving of datagrams tells
 abbrev pub dgram_world : HostWorld → Known → World
@@ -110,7 +119,7 @@ pub record AcceptsWent {S P : Type 0} (tells : S → Type 0) (accept_traffic : S
 pub record DgramsWent {D C J : Type 0} (tells : D → Type 0) (sock_traffic : D → SockTraffic) (failed_receives failed_sends : D → ℕ)
     (ticks : C → Type 0) (readings : C → List ClockReading)
     (notes : J → Type 0) (noted : J → List Event) (answers : Serving) (end : DgramEnd) (send_failed : Bool) (count : ℕ)
-        (k k' : Known) (d d' : D) (c c' : C) (j j' : J) : Type 0 where
+    (k k' : Known) (d d' : D) (c c' : C) (j j' : J) : Type 0 where
   pub dgrams : DgramsBeside answers end count (tells d' × ticks c' × notes j') (tells d × ticks c × notes j) k k'
       (world (noted j) (sock_traffic d) (failed_sends d) (readings c)) (world (noted j') (sock_traffic d') (failed_sends d') (readings c'))
   pub receives : ReceivesBy end (failed_receives d) (failed_receives d')
@@ -148,7 +157,7 @@ abbrev pub host_seen : {A D C P J : Type 0} → (A → AcceptTraffic) → (P →
     → (C → List ClockReading) → (A → ℕ) → (P → ℕ) → (D → ℕ) → (D → ℕ) → Host A D C P J → HostWorld
 host_seen accept_traffic given noted sock_traffic readings failed refused failed_receives failed_sends h =
     host_world (accept_traffic h.accept) (given h.spawner) (noted h.journal) (sock_traffic h.sock) (readings h.clock)
-        (failed h.accept) (refused h.spawner) (failed_receives h.sock) (failed_sends h.sock)
+    (failed h.accept) (refused h.spawner) (failed_receives h.sock) (failed_sends h.sock)
 
 -- that a host's accept object and spawner tell, and that its socket, clock and journal do
 abbrev pub accept_observed : {A D C P J : Type 0} → (A → Type 0) → (P → Type 0) → Host A D C P J → Type 0

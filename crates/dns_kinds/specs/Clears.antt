@@ -77,7 +77,7 @@ v4_again s c a h o =
     let d : List ℕ = 0 ∷ 1 ∷ s ∷ c ∷ take (octets_for s) a in
     let long : length (take (octets_for s) a) + 4 ≡ length d = omega arith in
     ap (λ x. Some (whole d (with_address V4 s c (length (take (octets_for s) a) + 4) x))) back.0 ∙ ap (λ x. Some x)
-        (taken_whole d (length (take (octets_for s) a) + 4) (record { source = s; scope = c; addr = V4 a }) long)
+    (taken_whole d (length (take (octets_for s) a) + 4) (record { source = s; scope = c; addr = V4 a }) long)
 
 v6_again : (s c : ℕ) (a : List ℕ) → IsSubnet s (V6 a) → AreOctets a
     → kind (for_code 8 subnet_data) 8 (0 ∷ 2 ∷ s ∷ c ∷ take (octets_for s) a) ≡ Some (Ok (record { source = s; scope = c; addr = V6 a }))
@@ -86,7 +86,7 @@ v6_again s c a h o =
     let d : List ℕ = 0 ∷ 2 ∷ s ∷ c ∷ take (octets_for s) a in
     let long : length (take (octets_for s) a) + 4 ≡ length d = omega arith in
     ap (λ x. Some (whole d (with_address V6 s c (length (take (octets_for s) a) + 4) x))) back.0 ∙ ap (λ x. Some x)
-        (taken_whole d (length (take (octets_for s) a) + 4) (record { source = s; scope = c; addr = V6 a }) long)
+    (taken_whole d (length (take (octets_for s) a) + 4) (record { source = s; scope = c; addr = V6 a }) long)
 
 by_address : (s c : ℕ) (x : IpAddr) → IsSubnet s x → AreOctets (address_octets x)
     → kind (for_code 8 subnet_data) 8 (subnet_octets (record { source = s; scope = c; addr = x }))

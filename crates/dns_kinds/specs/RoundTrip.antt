@@ -46,7 +46,7 @@ by_text c t r o =
     let long : length d ≡ length (text_octets t) + 2 = omega arith in
     let read : extended_of d ≡ Ok (extended c t, length (text_octets t) + 2) = rw (text_again t o, two_again c) refl in
     let found : extended_data d ≡ Ok (extended c t, length (text_octets t) + 2)
-        = short_data d (room (length d) (length (text_octets t)) long r) ∙ read in
+    = short_data d (room (length d) (length (text_octets t)) long r) ∙ read in
     ap (λ x. Some (whole d x)) found ∙ ap (λ x. Some x) (taken_whole d (length (text_octets t) + 2) (extended c t) (sym long))
 
 pub extended_again : (k : Extended) → IsExtended k → kind (for_code 15 extended_data) 15 (extended_octets k) ≡ Some (Ok k)

@@ -28,8 +28,15 @@ impl Model for MemoryLink {
 
     ghost Value = { LinkState };
 
-    ghost view = { λ s. record { left = s.input.left; came = s.input.came; went = s.output.items; most = s.most; ends = s.ends;
-        reads = s.reads; writes = s.writes } };
+    ghost view = { λ s. record {
+      left = s.input.left;
+      came = s.input.came;
+      went = s.output.items;
+      most = s.most;
+      ends = s.ends;
+      reads = s.reads;
+      writes = s.writes;
+    } };
 }
 
 impl MemoryLink {
@@ -42,8 +49,15 @@ impl MemoryLink {
         reads: ListedCalls,
         writes: ListedCalls,
     ) -> MemoryLink
-        ensures { result ≡ record { left = input.items; came = []; went = output.items; most = most; ends = 0; reads = reads;
-            writes = writes } }
+        ensures { result ≡ record {
+          left = input.items;
+          came = [];
+          went = output.items;
+          most = most;
+          ends = 0;
+          reads = reads;
+          writes = writes;
+        } }
     {
         MemoryLink {
             input: OctetReplay::new(input),

@@ -30,8 +30,13 @@ impl Model for MemorySock {
 
     ghost Value = { SockState };
 
-    ghost view = { λ s. record { left = s.incoming.left; received = s.incoming.came; sent = s.outgoing.items; receives = s.receives;
-        sends = s.sends } };
+    ghost view = { λ s. record {
+      left = s.incoming.left;
+      received = s.incoming.came;
+      sent = s.outgoing.items;
+      receives = s.receives;
+      sends = s.sends;
+    } };
 }
 
 impl MemorySock {

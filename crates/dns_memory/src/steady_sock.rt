@@ -29,8 +29,13 @@ impl Model for SteadySock {
 
     ghost Value = { SteadySockState };
 
-    ghost view = { λ s. record { left = s.incoming.left; received = s.incoming.came; sent = s.outgoing.items; whole = s.whole;
-        empty_receives = s.empty_receives } };
+    ghost view = { λ s. record {
+      left = s.incoming.left;
+      received = s.incoming.came;
+      sent = s.outgoing.items;
+      whole = s.whole;
+      empty_receives = s.empty_receives;
+    } };
 }
 
 impl SteadySock {

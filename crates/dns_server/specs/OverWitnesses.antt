@@ -42,4 +42,4 @@ module _ {D C J : Type 0} (sock_traffic : D → SockTraffic) (failed_sends : D �
         (λ _. Unit {0}) accept_traffic failed (λ _. Unit {0}) given refused end k k' h h'
     pub kept : (i : ℕ) (o : Outcome) (w : Worker D C J) → i < length h.workers.items
         → WorkerKept answers (slice_index_or served.outcomes i o).end count (worker_seat i k) (slice_index_or h.workers.items i w)
-            (slice_index_or h'.workers.items i w)
+        (slice_index_or h'.workers.items i w)

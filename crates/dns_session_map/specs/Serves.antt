@@ -66,7 +66,7 @@ module _ {W R F : Type 0} (answer : PolledRequest F R → ℕ → Answer) (answe
   abbrev pub LooksAll : BTreeMap ℕ (ClientCore W R F) → BTreeMap ℕ (ClientCore W R F) → State → List Output → Type 0
   LooksAll old new look outs = (slates : ℕ → Slate) (versions : ℕ → ℕ) → StandAll old slates versions
       → (outs ≡ flat_map (λ c. (look_effect answers (versions c) look (slates c)).1) (keys old))
-          × StandAll new (λ c. (look_effect answers (versions c) look (slates c)).0) (λ c. look.version)
+      × StandAll new (λ c. (look_effect answers (versions c) look (slates c)).0) (λ c. look.version)
 
   -- a client begins with a core: that is kept under its number, unless it is finished, the others stay, and the number is used
   pub record EntersWith (old new : BTreeMap ℕ (ClientCore W R F)) (before after : BTreeSet ℕ) (core : ClientCore W R F)

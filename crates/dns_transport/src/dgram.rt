@@ -50,8 +50,13 @@ impl<D, B, W, C> Model for DgramServer<D, B, W, C> {
 
     ghost Value = { DgramParts D W C };
 
-    ghost view = { λ s. record { sock = s.sock; service = arc_value s.service; clock = s.clock; book = arc_value s.book;
-        known = known_of s.seat } };
+    ghost view = { λ s. record {
+      sock = s.sock;
+      service = arc_value s.service;
+      clock = s.clock;
+      book = arc_value s.book;
+      known = known_of s.seat;
+    } };
 
     ghost invariant = { λ s. IsSeatAt (arc_value s.book) s.seat × (arc_value s.metrics ≡ false) };
 }
@@ -98,8 +103,13 @@ impl<D: AsyncDgramSock + Drop, B: BufSource + Drop, W: SharedService, C: Clock +
     fn on(server_parts: ServerParts, sock: D, buf: B, service: Arc<W>, clock: C) -> Self
         requires seat { server_parts.seat.book ≡ arc_value server_parts.book }
         requires metrics { arc_value server_parts.metrics ≡ false }
-        ensures { result ≡ record { sock = sock; service = arc_value service; clock = clock; book = arc_value server_parts.book;
-            known = server_parts.seat.known } }
+        ensures { result ≡ record {
+          sock = sock;
+          service = arc_value service;
+          clock = clock;
+          book = arc_value server_parts.book;
+          known = server_parts.seat.known;
+        } }
     {
         let ServerParts {
             book,

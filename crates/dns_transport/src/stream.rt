@@ -71,8 +71,14 @@ impl<A, B, W, C, P, H> Model for StreamServer<A, B, W, C, P, H> {
 
     ghost Value = { StreamParts A W C P };
 
-    ghost view = { λ s. record { accept = s.accept; service = arc_value s.conn_context.service; clock = s.conn_context.clock;
-        spawner = s.spawner; book = arc_value s.conn_context.book; known = known_of s.seat } };
+    ghost view = { λ s. record {
+      accept = s.accept;
+      service = arc_value s.conn_context.service;
+      clock = s.conn_context.clock;
+      spawner = s.spawner;
+      book = arc_value s.conn_context.book;
+      known = known_of s.seat;
+    } };
 
     ghost invariant = { λ s. IsSeatAt (arc_value s.conn_context.book) s.seat × (arc_value s.metrics ≡ true) };
 }
@@ -146,8 +152,14 @@ impl<
     ) -> Self
         requires seat { server_parts.seat.book ≡ arc_value server_parts.book }
         requires metrics { arc_value server_parts.metrics ≡ true }
-        ensures { result ≡ record { accept = accept; service = arc_value service; clock = clock; spawner = spawner;
-            book = arc_value server_parts.book; known = server_parts.seat.known } }
+        ensures { result ≡ record {
+          accept = accept;
+          service = arc_value service;
+          clock = clock;
+          spawner = spawner;
+          book = arc_value server_parts.book;
+          known = server_parts.seat.known;
+        } }
     {
         let ServerParts {
             book,

@@ -153,8 +153,13 @@ pub(crate) fn record_with(
     requires mac { length mac.now ≤ 64 }
     requires other { length other.now ≤ 6 }
     ensures value { IfOk result (λ r. record_of r
-        ≡ record { owner = owner; rtype = 250; class = 255; ttl = 0;
-        rdata = algorithm.now ++ data_behind stamp.now id mac.now other.now }) }
+        ≡ record {
+          owner = owner;
+          rtype = 250;
+          class = 255;
+          ttl = 0;
+          rdata = algorithm.now ++ data_behind stamp.now id mac.now other.now;
+        }) }
     ensures lawful { IfOk result (λ r. IsLawful r.rdata) }
 {
     let mut octets = Vec::new(alloc);

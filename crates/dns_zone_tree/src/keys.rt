@@ -46,8 +46,13 @@ impl Keys {
         requires place { place ≤ size_limit }
         ensures octets { OnOk result (self.new.octets.items ≡ self.old.octets.items ++ key.now) }
         ensures keyed { OnOk result (self.new.keyed.items
-            ≡ self.old.keyed.items ++ (record { span = record { start = length self.old.octets.items;
-            end = length self.old.octets.items + length key.now }; kind = record { rtype = rtype; place = place } }) ∷ []) }
+            ≡ self.old.keyed.items ++ (record {
+              span = record {
+                start = length self.old.octets.items;
+                end = length self.old.octets.items + length key.now;
+              };
+              kind = record { rtype = rtype; place = place };
+            }) ∷ []) }
     {
         let start = self.octets.len();
         let end = start + key.len();
