@@ -110,7 +110,8 @@ pub record EndsAdmitted (turns before : List AcceptTurn) : Type 0 where
 
 -- Turns were made, and then these calls of the seat; and works were given so. There is one look for each connection that came, each
 -- accept that brought nobody and each fault, and none of these shows a shutdown.
-pub record TookTurns (turns : List AcceptTurn) (more : List Entry) (now before works : Type 0) (k k' : Known) (a b : AcceptTraffic) (f f' : ℕ) : Type 0 where
+pub record TookTurns (turns : List AcceptTurn) (more : List Entry) (now before works : Type 0) (k k' : Known) (a b : AcceptTraffic)
+    (f f' : ℕ) : Type 0 where
   pub calls : Gained k (turn_entries k.name turns ++ more) k'
   pub running : All (λ t. t.look.closed ≡ false) turns
   pub name : k'.name ≡ halved k.name (admitted_callers_in turns)
@@ -118,14 +119,16 @@ pub record TookTurns (turns : List AcceptTurn) (more : List Entry) (now before w
   pub observed : Observed now before (LetIn turns a b × works)
 
 -- so many connections came
-pub record TookCount (count : ℕ) (now before : Type 0) (k k' : Known) (a b : AcceptTraffic) (given given' : List SocketAddr) (f f' : ℕ) : Type 0 where
+pub record TookCount (count : ℕ) (now before : Type 0) (k k' : Known) (a b : AcceptTraffic) (given given' : List SocketAddr)
+    (f f' : ℕ) : Type 0 where
   pub turns : List AcceptTurn
   pub some : count ≢ 0
   pub all : length (callers_in turns) ≡ count
   pub turned : TookTurns turns [] now before (Gave (admitted_callers_in turns) given given') k k' a b f f'
 
 -- one look more showed a shutdown, where fewer connections came than were to come
-pub record TookUntilShut (count : ℕ) (now before : Type 0) (k k' : Known) (a b : AcceptTraffic) (given given' : List SocketAddr) (f f' : ℕ) : Type 0 where
+pub record TookUntilShut (count : ℕ) (now before : Type 0) (k k' : Known) (a b : AcceptTraffic) (given given' : List SocketAddr)
+    (f f' : ℕ) : Type 0 where
   pub turns : List AcceptTurn
   pub look : Look
   pub shut : look.closed ≡ true
@@ -133,15 +136,18 @@ pub record TookUntilShut (count : ℕ) (now before : Type 0) (k k' : Known) (a b
   pub turned : TookTurns turns (look_entry k'.name look ∷ []) now before (Gave (admitted_callers_in turns) given given') k k' a b f f'
 
 -- memory ran out at the work of the connection that came last, which may be missing; no more came than were to come
-pub record TookAlmost (count : ℕ) (now before : Type 0) (k k' : Known) (a b : AcceptTraffic) (given given' : List SocketAddr) (f f' : ℕ) : Type 0 where
+pub record TookAlmost (count : ℕ) (now before : Type 0) (k k' : Known) (a b : AcceptTraffic) (given given' : List SocketAddr)
+    (f f' : ℕ) : Type 0 where
   pub turns : List AcceptTurn
   pub whole : List AcceptTurn
   pub last : EndsAdmitted turns whole
   pub within : IsWithinCount count (length (callers_in turns))
-  pub turned : TookTurns turns [] now before (Gave (admitted_callers_in turns) given given' ⊎ Gave (admitted_callers_in whole) given given') k k' a b f f'
+  pub turned : TookTurns turns [] now before
+      (Gave (admitted_callers_in turns) given given' ⊎ Gave (admitted_callers_in whole) given given') k k' a b f f'
 
 -- how a loop of accepts went, by its end
-abbrev pub AcceptsTo : AcceptEnd → ℕ → Type 0 → Type 0 → Known → Known → AcceptTraffic → AcceptTraffic → List SocketAddr → List SocketAddr → ℕ → ℕ → Type 0
+abbrev pub AcceptsTo : AcceptEnd → ℕ → Type 0 → Type 0 → Known → Known → AcceptTraffic → AcceptTraffic → List SocketAddr
+    → List SocketAddr → ℕ → ℕ → Type 0
 AcceptsTo Counted count now before k k' a b given given' f f' = TookCount count now before k k' a b given given' f f'
 AcceptsTo Shutdown count now before k k' a b given given' f f' = TookUntilShut count now before k k' a b given given' f f'
 AcceptsTo OutOfMemory count now before k k' a b given given' f f' = TookAlmost count now before k k' a b given given' f f'

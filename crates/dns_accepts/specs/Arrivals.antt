@@ -72,7 +72,8 @@ GaveSo (Ok arrival) addrs a b = Gave addrs a b
 GaveSo (Err e) addrs a b = Gave addrs a b ⊎ Gave [] a b
 
 -- a connection from this address was asked for a slot
-pub record AskedOne (arrival : Result Arrival OutOfMemory) (from : SocketAddr) (now before : Type 0) (k k' : Known) (given given' : List SocketAddr) : Type 0 where
+pub record AskedOne (arrival : Result Arrival OutOfMemory) (from : SocketAddr) (now before : Type 0) (k k' : Known)
+    (given given' : List SocketAddr) : Type 0 where
   pub answer : Admission
   pub calls : Gained k (admit_entries k.name (Caller from answer)) k'
   pub name : k'.name ≡ halved k.name (if_admitted from answer)
@@ -80,13 +81,15 @@ pub record AskedOne (arrival : Result Arrival OutOfMemory) (from : SocketAddr) (
   pub works : Observed now before (GaveSo arrival (if_admitted from answer) given given')
 
 -- what the accept object and the spawner tell of one turn
-pub record BroughtIn (arrival : Result Arrival OutOfMemory) (came : Came) (a b : AcceptTraffic) (given given' : List SocketAddr) : Type 0 where
+pub record BroughtIn (arrival : Result Arrival OutOfMemory) (came : Came) (a b : AcceptTraffic)
+    (given given' : List SocketAddr) : Type 0 where
   pub callers : b.callers ≡ a.callers ++ caller came
   pub nobody : b.empty_accepts ≡ a.empty_accepts + one_if_nobody came
   pub works : GaveSo arrival (admitted_caller came) given given'
 
 -- one accept
-pub record Brought (arrival : Result Arrival OutOfMemory) (now before : Type 0) (k k' : Known) (a b : AcceptTraffic) (given given' : List SocketAddr) (f f' : ℕ) : Type 0 where
+pub record Brought (arrival : Result Arrival OutOfMemory) (now before : Type 0) (k k' : Known) (a b : AcceptTraffic)
+    (given given' : List SocketAddr) (f f' : ℕ) : Type 0 where
   pub came : Came
   pub calls : Gained k (admit_entries k.name came) k'
   pub name : k'.name ≡ halved k.name (admitted_caller came)
@@ -118,7 +121,8 @@ RoseWhere true a b c d = Rose a b ⊎ Rose c d
 RoseWhere false a b c d = (b ≡ a) × (d ≡ c)
 
 -- the loop so far: whole turns, in which so many connections came as are counted, where they are to be counted
-pub record TookSoFar (count taken : ℕ) (now before : Type 0) (k k' : Known) (a b : AcceptTraffic) (given given' : List SocketAddr) (f f' : ℕ) : Type 0 where
+pub record TookSoFar (count taken : ℕ) (now before : Type 0) (k k' : Known) (a b : AcceptTraffic) (given given' : List SocketAddr)
+    (f f' : ℕ) : Type 0 where
   pub turns : List AcceptTurn
   pub turned : TookTurns turns [] now before (Gave (admitted_callers_in turns) given given') k k' a b f f'
   pub counted : count ≢ 0 → (taken ≡ length (callers_in turns)) × (taken ≤ count)
@@ -138,9 +142,11 @@ EndedSo None count taken k k' = (count ≢ 0 → taken ≢ count) × LookedAt fa
 
 -- How a loop of accepts went with an accept object and a spawner, which are read so, and whether an accept failed or a start was
 -- refused. Neither count fell.
-pub record AcceptsRan {S P : Type 0} (tells : S → Type 0) (accept_traffic : S → AcceptTraffic) (failed : S → ℕ) (works : P → Type 0) (given : P → List SocketAddr) (refused : P → ℕ)
+pub record AcceptsRan {S P : Type 0} (tells : S → Type 0) (accept_traffic : S → AcceptTraffic) (failed : S → ℕ) (works : P → Type 0)
+    (given : P → List SocketAddr) (refused : P → ℕ)
     (end : AcceptEnd) (risen : Bool) (count : ℕ) (k k' : Known) (a b : S) (p q : P) : Type 0 where
-  pub observed : AcceptsTo end count (tells b × works q) (tells a × works p) k k' (accept_traffic a) (accept_traffic b) (given p) (given q) (failed a) (failed b)
+  pub observed : AcceptsTo end count (tells b × works q) (tells a × works p) k k' (accept_traffic a) (accept_traffic b) (given p)
+      (given q) (failed a) (failed b)
   pub rose : RoseWhere risen (failed a) (failed b) (refused p) (refused q)
   pub accepts_later : failed a ≤ failed b
   pub starts_later : refused p ≤ refused q

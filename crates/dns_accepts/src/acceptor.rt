@@ -113,7 +113,8 @@ fn give_up<R: Wait, L: Link + Drop>(rt: &R, book: &Book, mut seat: BookSeat, con
 
 /// Makes one accept. Where it brought no connection, it waits.
 fn accept_or_wait<R: Wait, A: AsyncAccept>(rt: &R, accept: &mut A) -> AcceptAnswer<A::Link>
-    ensures moves { Observed (A.tells accept.new) (A.tells accept.old) (AcceptMoves result (A.accept_traffic accept.old) (A.accept_traffic accept.new)) }
+    ensures moves { Observed (A.tells accept.new) (A.tells accept.old)
+        (AcceptMoves result (A.accept_traffic accept.old) (A.accept_traffic accept.new)) }
     ensures later { A.faults accept.old ≤ A.faults accept.new }
     ensures cause { AcceptCause result (A.faults accept.old) (A.faults accept.new) }
 {
@@ -142,7 +143,8 @@ where
 {
     /// Takes the memory that the work of a connection needs.
     fn shares(&self) -> Result<WorkerShares<C, W>, OutOfMemory>
-        ensures { IfOk result (λ s. (arc_value s.book ≡ arc_value self.now.book.now) × (arc_value s.service ≡ arc_value self.now.service.now)) }
+        ensures { IfOk result (λ s. (arc_value s.book ≡ arc_value self.now.book.now)
+            × (arc_value s.service ≡ arc_value self.now.service.now)) }
     {
         match clones(self.book, self.service) {
             Ok((book, service)) => match self.clock.another(self.alloc) {
@@ -168,7 +170,8 @@ where
         requires book { seat.book ≡ arc_value self.now.book.now }
         requires running { look.now.closed ≡ false }
         requires can_call { W.can_call (arc_value self.now.service.now) }
-        ensures { IfOk result (λ w. (w.addr ≡ conn.from) × (w.seat.book ≡ arc_value w.book) × (w.look.closed ≡ false) × W.can_call (arc_value w.service)) }
+        ensures { IfOk result (λ w. (w.addr ≡ conn.from) × (w.seat.book ≡ arc_value w.book) × (w.look.closed ≡ false)
+            × W.can_call (arc_value w.service)) }
     {
         match self.shares() {
             Ok(shares) => Ok(shares.work(seat, look, conn)),
@@ -190,7 +193,8 @@ where
         requires book { seat.book ≡ arc_value self.now.book.now }
         requires running { look.now.closed ≡ false }
         requires can_call { W.can_call (arc_value self.now.service.now) }
-        ensures given { Observed (P.tells spawner.new) (P.tells spawner.old) (StartMoves result conn.from (P.given spawner.old) (P.given spawner.new)) }
+        ensures given { Observed (P.tells spawner.new) (P.tells spawner.old)
+            (StartMoves result conn.from (P.given spawner.old) (P.given spawner.new)) }
         ensures later { P.faults spawner.old ≤ P.faults spawner.new }
         ensures cause { StartCause result (P.faults spawner.old) (P.faults spawner.new) }
     {
@@ -216,7 +220,9 @@ where
         requires can_call { W.can_call (arc_value self.now.service.now) }
         ensures half { result.0.known ≡ first_half seat.known }
         ensures same { result.0.book ≡ seat.book }
-        ensures started { (started : _) × (result.1 ≡ arrival_of started) × Observed (P.tells spawner.new) (P.tells spawner.old) (StartMoves started conn.from (P.given spawner.old) (P.given spawner.new)) }
+        ensures started { (started : _) × (result.1 ≡ arrival_of started)
+            × Observed (P.tells spawner.new) (P.tells spawner.old)
+            (StartMoves started conn.from (P.given spawner.old) (P.given spawner.new)) }
         ensures later { P.faults spawner.old ≤ P.faults spawner.new }
         ensures cause { StartFaults result.1 (P.faults spawner.old) (P.faults spawner.new) }
     {
@@ -242,7 +248,8 @@ where
         H: PreConnect<L>,
         requires book { seat.book ≡ arc_value self.now.book.now }
         requires can_call { W.can_call (arc_value self.now.service.now) }
-        ensures asked { AskedOne result.1 conn.from (P.tells spawner.new) (P.tells spawner.old) seat.known result.0.known (P.given spawner.old) (P.given spawner.new) }
+        ensures asked { AskedOne result.1 conn.from (P.tells spawner.new) (P.tells spawner.old) seat.known result.0.known
+            (P.given spawner.old) (P.given spawner.new) }
         ensures same { result.0.book ≡ seat.book }
         ensures later { P.faults spawner.old ≤ P.faults spawner.new }
         ensures cause { StartFaults result.1 (P.faults spawner.old) (P.faults spawner.new) }
@@ -270,8 +277,10 @@ where
         H: PreConnect<A::Link>,
         requires book { seat.book ≡ arc_value self.now.book.now }
         requires can_call { W.can_call (arc_value self.now.service.now) }
-        ensures brought { Brought result.1 (A.tells accept.new × P.tells spawner.new) (A.tells accept.old × P.tells spawner.old) seat.known result.0.known
-            (A.accept_traffic accept.old) (A.accept_traffic accept.new) (P.given spawner.old) (P.given spawner.new) (A.faults accept.old) (A.faults accept.new) }
+        ensures brought { Brought result.1 (A.tells accept.new × P.tells spawner.new)
+            (A.tells accept.old × P.tells spawner.old) seat.known result.0.known
+            (A.accept_traffic accept.old) (A.accept_traffic accept.new) (P.given spawner.old) (P.given spawner.new)
+            (A.faults accept.old) (A.faults accept.new) }
         ensures same { result.0.book ≡ seat.book }
         ensures accepts { AcceptFaults result.1 (A.faults accept.old) (A.faults accept.new) }
         ensures accepts_later { A.faults accept.old ≤ A.faults accept.new }
@@ -323,7 +332,8 @@ where
         H: PreConnect<A::Link>,
         requires book { seat.book ≡ arc_value self.now.book.now }
         requires can_call { W.can_call (arc_value self.now.service.now) }
-        ensures ran { AcceptsRan A.tells A.accept_traffic A.faults P.tells P.given P.faults result.1 result.2 count seat.known result.0.known accept.old accept.new spawner.old spawner.new }
+        ensures ran { AcceptsRan A.tells A.accept_traffic A.faults P.tells P.given P.faults result.1 result.2 count seat.known
+            result.0.known accept.old accept.new spawner.old spawner.new }
         ensures same { result.0.book ≡ seat.book }
     {
         let mut tally = Tally::new();

@@ -53,7 +53,8 @@ where
     W::Stream: Send,
     requires book { seat.book ≡ arc_value book.now }
     requires can_call { W.can_call (arc_value service.now) }
-    ensures ran { AcceptsRan A.tells A.accept_traffic A.faults P.tells P.given P.faults result.1 result.2 count seat.known result.0.known accept.old accept.new spawner.old spawner.new }
+    ensures ran { AcceptsRan A.tells A.accept_traffic A.faults P.tells P.given P.faults result.1 result.2 count seat.known
+        result.0.known accept.old accept.new spawner.old spawner.new }
     ensures same { result.0.book ≡ seat.book }
 {
     let acceptor = Acceptor {
@@ -96,8 +97,10 @@ where
     W::Stream: Send,
     requires book { seat.book ≡ arc_value book.now }
     requires can_call { W.can_call (arc_value service.now) }
-    ensures observed { AcceptsTo result.1 count (A.tells accept.new × P.tells spawner.new) (A.tells accept.old × P.tells spawner.old) seat.known result.0.known
-        (A.accept_traffic accept.old) (A.accept_traffic accept.new) (P.given spawner.old) (P.given spawner.new) (A.faults accept.old) (A.faults accept.new) }
+    ensures observed { AcceptsTo result.1 count (A.tells accept.new × P.tells spawner.new)
+        (A.tells accept.old × P.tells spawner.old) seat.known result.0.known
+        (A.accept_traffic accept.old) (A.accept_traffic accept.new) (P.given spawner.old) (P.given spawner.new)
+        (A.faults accept.old) (A.faults accept.new) }
     ensures same { result.0.book ≡ seat.book }
     ensures accepts_later { A.faults accept.old ≤ A.faults accept.new }
     ensures starts_later { P.faults spawner.old ≤ P.faults spawner.new }

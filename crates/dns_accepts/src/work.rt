@@ -47,7 +47,17 @@ impl<L, C, J, W: SharedService> ConnectionWork<L, C, J, W> {
         requires book { seat.book ≡ arc_value book }
         requires running { look.closed ≡ false }
         requires can_call { W.can_call (arc_value service) }
-        ensures { result ≡ record { book = book; seat = seat; client = client; addr = addr; look = look; service = service; link = link; clock = clock; journal = journal } }
+        ensures { result ≡ record {
+          book = book;
+          seat = seat;
+          client = client;
+          addr = addr;
+          look = look;
+          service = service;
+          link = link;
+          clock = clock;
+          journal = journal;
+        } }
     {
         ConnectionWork {
             book,
@@ -82,7 +92,8 @@ impl<
         (EndShown (serving (W.answer (arc_value w.service)) (W.hint (arc_value w.service))) d.1 w.client w.addr w.look
         (J.noted w.journal) (J.noted d.4) (L.traffic w.link) (L.traffic d.2))
         × WhereClosed d.1 (Observed (L.tells d.2 × C.tells d.3 × J.tells d.4) (L.tells w.link × C.tells w.clock × J.tells w.journal)
-        (TimedWhole (J.noted w.journal) (J.noted d.4) (L.traffic w.link).full_writes (L.traffic d.2).full_writes (C.readings w.clock) (C.readings d.3)))
+        (TimedWhole (J.noted w.journal) (J.noted d.4) (L.traffic w.link).full_writes (L.traffic d.2).full_writes
+        (C.readings w.clock) (C.readings d.3)))
         × EndCauses d.1 w.seat.known d.0.known (L.faults w.link) (L.faults d.2)
         × LooksAndRelease w.seat.known d.0.known × (d.0.book ≡ w.seat.book) };
 

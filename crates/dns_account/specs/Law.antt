@@ -20,7 +20,8 @@ use Rattle.dns_stream_driver.specs.declared.connection.ConnectionEnd.TheVariants
 -- From n to n' the client was offered, and then came events of this client alone (or of the whole server). Their pieces are the octets
 -- that the link's reads took; where the connection was closed they are all of them. The octets that its writes handed over are the frames
 -- that the rules for this client alone send for these events, in order, and then perhaps a part of one frame more, the first that waits.
-pub record ByTheRules (answers : Serving) (end : ConnectionEnd) (client : ℕ) (addr : SocketAddr) (look : Look) (n n' : List Event) (t t' : Traffic) : Type 0 where
+pub record ByTheRules (answers : Serving) (end : ConnectionEnd) (client : ℕ) (addr : SocketAddr) (look : Look) (n n' : List Event)
+    (t t' : Traffic) : Type 0 where
   pub at : ℕ
   pub secs : ℕ
   pub events : List Event
@@ -32,7 +33,8 @@ pub record ByTheRules (answers : Serving) (end : ConnectionEnd) (client : ℕ) (
   pub all_heard : WhereClosed end (unheard ≡ [])
   pub handed : t'.went ≡ t.went ++ (frame_octets (sent_after answers (began client addr at look) events) ++ part)
   pub cut : IsFrontCut (slate_after answers (began client addr at look) events).queue part
-      ⊎ Extra (closed_by (sent_after answers (began client addr at look) events)) (slate_after answers (began client addr at look) (all_but_last events)).queue part
+      ⊎ Extra (closed_by (sent_after answers (began client addr at look) events))
+      (slate_after answers (began client addr at look) (all_but_last events)).queue part
 
 -- or memory ran out before the Offer, and nothing was read or written
 abbrev pub KeptToTheRules : Serving → ConnectionEnd → ℕ → SocketAddr → Look → List Event → List Event → Traffic → Traffic → Type 0

@@ -47,9 +47,11 @@ state_after s Look = s
 abbrev pub reply_of : State → Call → Reply
 reply_of s Admit =
     if s.closed then reply.Admission Closed
-    else (if has_slot s then reply.Admission (Admitted (admitted s)) else reply.Admission (Full s.taken (limit_of s) s.stream.accept_connections_at_max))
+    else (if has_slot s then reply.Admission (Admitted (admitted s))
+    else reply.Admission (Full s.taken (limit_of s) s.stream.accept_connections_at_max))
 reply_of s Release = reply.Left (s.taken - 1)
 reply_of s (Reconfigure d t) =
-    if s.closed then reply.Version (Ok s.version) else (if has_version s then reply.Version (Ok (s.version + 1)) else reply.Version (Err CommandCouldNotBeSent))
+    if s.closed then reply.Version (Ok s.version)
+    else (if has_version s then reply.Version (Ok (s.version + 1)) else reply.Version (Err CommandCouldNotBeSent))
 reply_of s Shutdown = reply.Look (record s { closed = true })
 reply_of s Look = reply.Look s

@@ -122,7 +122,8 @@ impl<S: HoldsOctets, K: Variant> AlgList<S, K> {
     }
 
     fn checked(octets: S) -> Result<AlgList<S, K>, LongOptData>
-        ensures { MatchResult result (λ k. (length (S.octets octets) ≤ 65535) × (k ≡ S.octets octets)) (λ _. 65535 < length (S.octets octets)) }
+        ensures { MatchResult result (λ k. (length (S.octets octets) ≤ 65535) × (k ≡ S.octets octets))
+            (λ _. 65535 < length (S.octets octets)) }
     {
         LongOptData::check_len(octets.as_octets().len())?;
         Ok(AlgList::of(octets))

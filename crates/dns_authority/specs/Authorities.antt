@@ -42,7 +42,8 @@ zone_for name (z ∷ zs) = if ends_name name z.zone.apex then longer z (zone_for
 -- the zone with the longest apex that ends a name and isn't the name
 abbrev pub zone_above : List (List ℕ) → List ServedState → Option ServedState
 zone_above name [] = None
-zone_above name (z ∷ zs) = if not (same_name name z.zone.apex) && ends_name name z.zone.apex then longer z (zone_above name zs) else zone_above name zs
+zone_above name (z ∷ zs) = if not (same_name name z.zone.apex) && ends_name name z.zone.apex then longer z (zone_above name zs)
+    else zone_above name zs
 
 -- the zone for DS records of a name: where that begins a zone, the zone above it, if it is served too (RFC 4035, section 3.1.4.1)
 abbrev pub zone_for_ds : List (List ℕ) → List ServedState → Option ServedState
@@ -58,7 +59,8 @@ IsNoLonger name z y = ends_name name y.zone.apex ≡ true → length y.zone.apex
 
 -- the zone that is found ends the name, and no other that does has a longer apex
 abbrev pub LongestAnswers : Type 0
-LongestAnswers = (name : List (List ℕ)) (zs : List ServedState) (z : ServedState) → zone_for name zs ≡ Some z → (ends_name name z.zone.apex ≡ true) × AllByRecursion (IsNoLonger name z) zs
+LongestAnswers = (name : List (List ℕ)) (zs : List ServedState) (z : ServedState) → zone_for name zs ≡ Some z
+    → (ends_name name z.zone.apex ≡ true) × AllByRecursion (IsNoLonger name z) zs
 
 -- ---- questions
 
@@ -134,4 +136,5 @@ pub record AsksTransfer {Meta : Type 0} (a : AuthorityState) (r : Req Meta) (q :
 
 -- is answered by the transfer where it is allowed, and else REFUSED
 abbrev pub TransfersAreAnswered : Type 0 → Type 0
-TransfersAreAnswered Meta = (a : AuthorityState) (r : Req Meta) (q : Question) (s : ServedState) → AsksTransfer a r q s → authority_answer a r ≡ (if may_transfer s.allowed r then transfer s.zone r.octets else once (coded r.octets 5))
+TransfersAreAnswered Meta = (a : AuthorityState) (r : Req Meta) (q : Question) (s : ServedState) → AsksTransfer a r q s
+    → authority_answer a r ≡ (if may_transfer s.allowed r then transfer s.zone r.octets else once (coded r.octets 5))

@@ -11,8 +11,12 @@ use Rattle.dns_authority.specs.Authorities.{AsksTransfer, AuthorityState, Served
 -- the answers to a query for a transfer that is allowed, joined, are the records of a zone that was added: the SOA record, all others
 -- in order, the SOA record again (RFC 5936, section 2.2)
 abbrev pub TransfersAreTheRecords : Type 0 → Type 0
-TransfersAreTheRecords Meta = (a : AuthorityState) (r : Req Meta) (q : Question) (s : ServedState) (n : ℕ) → AsksTransfer a r q s → may_transfer s.allowed r ≡ true → position is_long s.zone.records ≡ None → length (bunched (transfer_records s.zone)) ≤ n → joined_answers (authority_answer a r) n ≡ transfer_records s.zone
+TransfersAreTheRecords Meta = (a : AuthorityState) (r : Req Meta) (q : Question) (s : ServedState) (n : ℕ) → AsksTransfer a r q s
+    → may_transfer s.allowed r ≡ true → position is_long s.zone.records ≡ None → length (bunched (transfer_records s.zone)) ≤ n
+    → joined_answers (authority_answer a r) n ≡ transfer_records s.zone
 
 -- those of a zone that is made, since none of its records is long
 abbrev pub TheZoneIsSent : Type 0 → ZoneState → Type 0
-TheZoneIsSent Meta z = (a : AuthorityState) (r : Req Meta) (q : Question) (s : ServedState) (n : ℕ) → AsksTransfer a r q s → s.zone ≡ z → may_transfer s.allowed r ≡ true → length (bunched (transfer_records z)) ≤ n → joined_answers (authority_answer a r) n ≡ transfer_records z
+TheZoneIsSent Meta z = (a : AuthorityState) (r : Req Meta) (q : Question) (s : ServedState) (n : ℕ) → AsksTransfer a r q s
+    → s.zone ≡ z → may_transfer s.allowed r ≡ true → length (bunched (transfer_records z)) ≤ n
+    → joined_answers (authority_answer a r) n ≡ transfer_records z

@@ -148,7 +148,8 @@ impl Authority {
         question: &QuestionRef<'_>,
         zone: &ServedZone,
     ) -> Result<AuthorityStream, OutOfMemory>
-        ensures { IfOk result (λ s. ⟦<AuthorityStream as ReplyStream>⟧.answer s ≡ transferred zone.now.allowed request.now question.now zone.now.zone) }
+        ensures { IfOk result (λ s. ⟦<AuthorityStream as ReplyStream>⟧.answer s
+            ≡ transferred zone.now.allowed request.now question.now zone.now.zone) }
     {
         if zone.allows(request, question) {
             let transfer = zone.transfer(request)?;
@@ -164,7 +165,8 @@ impl Authority {
         request: &Request<Meta>,
         question: &QuestionRef<'_>,
     ) -> Result<AuthorityStream, OutOfMemory>
-        ensures { IfOk result (λ s. ⟦<AuthorityStream as ReplyStream>⟧.answer s ≡ by_zone request.now question.now (asked_zone question.now self.now.zones)) }
+        ensures { IfOk result (λ s. ⟦<AuthorityStream as ReplyStream>⟧.answer s
+            ≡ by_zone request.now question.now (asked_zone question.now self.now.zones)) }
     {
         match self.asked_zone(question) {
             Some(zone) => self.asked(alloc, request, question, zone),
@@ -193,7 +195,8 @@ impl Authority {
         alloc: Global,
         request: &Request<Meta>,
     ) -> Result<AuthorityStream, OutOfMemory>
-        ensures { IfOk result (λ s. ⟦<AuthorityStream as ReplyStream>⟧.answer s ≡ by_question self.now.zones request.now (sole_question request.now.octets)) }
+        ensures { IfOk result (λ s. ⟦<AuthorityStream as ReplyStream>⟧.answer s
+            ≡ by_question self.now.zones request.now (sole_question request.now.octets)) }
     {
         match sole_question(request) {
             Some(question) => self.classed(alloc, request, &question),
@@ -296,7 +299,8 @@ fn better<'a>(
     best: Option<&'a ServedZone>,
     question: &QuestionRef<'_>,
 ) -> Option<&'a ServedZone>
-    ensures { option_copied result ≡ (if ends_name question.now.qname zone.now.zone.apex then longer zone.now (option_copied best.entry) else option_copied best.entry) }
+    ensures { option_copied result ≡ (if ends_name question.now.qname zone.now.zone.apex
+        then longer zone.now (option_copied best.entry) else option_copied best.entry) }
 {
     if !zone.ends(question) {
         return best;
@@ -313,7 +317,8 @@ fn better_above<'a>(
     best: Option<&'a ServedZone>,
     question: &QuestionRef<'_>,
 ) -> Option<&'a ServedZone>
-    ensures { option_copied result ≡ (if not (same_name question.now.qname zone.now.zone.apex) && ends_name question.now.qname zone.now.zone.apex then longer zone.now (option_copied best.entry) else option_copied best.entry) }
+    ensures { option_copied result ≡ (if not (same_name question.now.qname zone.now.zone.apex)
+        && ends_name question.now.qname zone.now.zone.apex then longer zone.now (option_copied best.entry) else option_copied best.entry) }
 {
     if zone.is_named(question) {
         return best;

@@ -16,7 +16,19 @@ pub record Built : Type 0 where
 
 -- the header whose bits are all zero
 abbrev pub zero_header : Header
-zero_header = record { id = 0; qr = false; opcode = 0; aa = false; tc = false; rd = false; ra = false; z = false; ad = false; cd = false; rcode = 0 }
+zero_header = record {
+  id = 0;
+  qr = false;
+  opcode = 0;
+  aa = false;
+  tc = false;
+  rd = false;
+  ra = false;
+  z = false;
+  ad = false;
+  cd = false;
+  rcode = 0;
+}
 
 -- the message with a zero header and nothing else
 abbrev pub empty : Msg

@@ -17,7 +17,8 @@ other_than t (r ∷ rs) = if nat_eq r.rtype t then other_than t rs else r ∷ ot
 abbrev pub less_type : ℕ → Built → Built
 less_type t b = record b { message = record b.message { additional = other_than t b.message.additional } }
 
--- what is kept of a record of a type between two places, where records of another type are dropped: how many records, how many octets, and the end
+-- what is kept of a record of a type between two places, where records of another type are dropped: how many records, how many
+-- octets, and the end
 abbrev pub kept_part : ℕ → ℕ → ℕ → ℕ → ℕ × ℕ × ℕ
 kept_part kind t at end = if nat_eq kind t then (0, 0, end) else (1, end - at, end)
 

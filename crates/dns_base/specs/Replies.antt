@@ -1,4 +1,5 @@
--- The reply that is begun to a query: it copies the query's identifier, opcode, RD and questions, and is a response with a response code (RFC 1035, section 4.1.1).
+-- The reply that is begun to a query: it copies the query's identifier, opcode, RD and questions, and is a response with a response
+-- code (RFC 1035, section 4.1.1).
 use Rattle.std.specs.Prelude.{ℕ, ⊤, ◌≡◌, Bool, true, false, List, [], ◌∷◌, ◌++◌, length, nat_le, if◌then◌else◌, Result, Ok, Err}
 use Rattle.dns_base.specs.declared.error.PushError.{PushError}
 use Rattle.dns_base.specs.declared.error.PushError.TheVariants.{ShortBuf, OutOfMemory as NoMemory}

@@ -41,7 +41,8 @@ fn push_opt_octets(
     options: &[u8],
 ) -> Result<(), OutOfMemory>
     requires { length options.now ≤ 65535 }
-    ensures { target.new.items ≡ (if is_ok result then target.old.items ++ record_octets (opt_resource size ttl options.now) else target.old.items) }
+    ensures { target.new.items ≡ (if is_ok result then target.old.items ++ record_octets (opt_resource size ttl options.now)
+        else target.old.items) }
 {
     target.reserve(11 + options.len())?;
     target.extend_from_slice(&opt_head(size, ttl, options.len() as u16))?;

@@ -98,7 +98,10 @@ pub(crate) fn squeeze(octets: &mut Vec<u8>, others: Others, rtype: Rtype, count:
     requires header { 14 ≤ length octets.old.items }
     requires spelt { AreSpelt (drop 2 octets.old.items) others.count others.start }
     requires behind { 12 ≤ others.start }
-    ensures message { drop 2 octets.new.items ≡ counted 10 count (take others.start (drop 2 octets.old.items) ++ (spelling (other_than rtype (records_at (drop 2 octets.old.items) others.count others.start)) ++ behind_records (drop 2 octets.old.items) others.count others.start)) }
+    ensures message { drop 2 octets.new.items
+        ≡ counted 10 count (take others.start (drop 2 octets.old.items)
+        ++ (spelling (other_than rtype (records_at (drop 2 octets.old.items) others.count others.start))
+        ++ behind_records (drop 2 octets.old.items) others.count others.start)) }
     ensures framed { 14 ≤ length octets.new.items }
 {
     let end = sift(
@@ -115,7 +118,9 @@ pub(crate) fn squeeze(octets: &mut Vec<u8>, others: Others, rtype: Rtype, count:
 /// Moves the records of other types and what is behind the records together, and gives the place where that ends.
 fn sift(message: &mut [u8], start: usize, count: u16, rtype: Rtype) -> usize
     requires { AreSpelt message.old count start }
-    ensures message { take result message.new ≡ take start message.old ++ (spelling (other_than rtype (records_at message.old count start)) ++ behind_records message.old count start) }
+    ensures message { take result message.new
+        ≡ take start message.old ++ (spelling (other_than rtype (records_at message.old count start))
+        ++ behind_records message.old count start) }
     ensures len { length message.new ≡ length message.old }
     ensures within { result ≤ length message.new }
     ensures behind { start ≤ result }

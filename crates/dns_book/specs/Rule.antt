@@ -58,7 +58,8 @@ pub record InOrder (opening : State) (log : List Entry) (views : List View) : Ty
   pub apart : (i j : ℕ) (v u : View) → i ≢ j → get_elem? views i ≡ some v → get_elem? views j ≡ some u → Apart v u
   pub known : (n : SeatName) → (calls_by n log ≡ []) ⊎ ((j : ℕ) × (u : View) × (get_elem? views j ≡ some u) × Owns u n)
 
--- The words stand for the state after one legal history, of which each pass knows a part. Before that there is one pass, which knows nothing.
+-- The words stand for the state after one legal history, of which each pass knows a part. Before that there is one pass, which
+-- knows nothing.
 abbrev pub KeptInOrder : List ℕ → List View → Type 0
 KeptInOrder words views =
     (views ≡ newcomer ∷ [])

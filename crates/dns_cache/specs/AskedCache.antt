@@ -146,4 +146,5 @@ bare_octets m = wire (record m { additional = other_than 41 m.additional })
 -- a reply whose built message this is, of its octets without the OPT record; or the service's answer
 abbrev pub AnswersCached : Option Msg → TurnAnswer → TurnAnswer → Type 0
 AnswersCached None answer result = result ≡ answer
-AnswersCached (Some m) answer result = (reply : ReplyState) × (result ≡ Ready (Ok reply)) × (reply_message reply ≡ Ok m) × (length (wire m) ≤ 65535) × (reply.octets ≡ bare_octets m)
+AnswersCached (Some m) answer result = (reply : ReplyState) × (result ≡ Ready (Ok reply)) × (reply_message reply ≡ Ok m)
+    × (length (wire m) ≤ 65535) × (reply.octets ≡ bare_octets m)

@@ -34,17 +34,22 @@ same_key_equiv =
 same_names : (xs ys : List (List ℕ)) → Decides (pointwise (pointwise ◌==◌) xs ys) (xs ≡ ys)
 same_names = pointwise_decides (pointwise_decides unsigned_Decides)
 
-same_parts : (a b : AskedKey) → Decides (same_key a b) ((a.name ≡ b.name) × ((a.qtype ≡ b.qtype) × ((a.qclass ≡ b.qclass) × (a.dnssec_ok ≡ b.dnssec_ok))))
+same_parts : (a b : AskedKey) → Decides (same_key a b)
+    ((a.name ≡ b.name) × ((a.qtype ≡ b.qtype) × ((a.qclass ≡ b.qclass) × (a.dnssec_ok ≡ b.dnssec_ok))))
 same_parts a b =
     Decides-and _ _ (same_names a.name b.name)
-    (Decides-and _ _ (unsigned_Decides a.qtype b.qtype) (Decides-and _ _ (unsigned_Decides a.qclass b.qclass) (booleans_Decides a.dnssec_ok b.dnssec_ok)))
+    (Decides-and _ _ (unsigned_Decides a.qtype b.qtype)
+    (Decides-and _ _ (unsigned_Decides a.qclass b.qclass) (booleans_Decides a.dnssec_ok b.dnssec_ok)))
 
 -- keys are the same exactly where they are equal
 pub same_key_Decides : (a b : AskedKey) → Decides (same_key a b) (a ≡ b)
 same_key_Decides a b =
     let d = same_parts a b in (
       λ h. let p = d.0 h in λ i. record { name = p.0 i; qtype = p.1.0 i; qclass = p.1.1.0 i; dnssec_ok = p.1.1.1 i },
-      λ e. d.1 (ap (λ (k : AskedKey). k.name) e, (ap (λ (k : AskedKey). k.qtype) e, (ap (λ (k : AskedKey). k.qclass) e, ap (λ (k : AskedKey). k.dnssec_ok) e))),
+      λ e. d.1 (
+        ap (λ (k : AskedKey). k.name) e,
+        (ap (λ (k : AskedKey). k.qtype) e, (ap (λ (k : AskedKey). k.qclass) e, ap (λ (k : AskedKey). k.dnssec_ok) e)),
+      ),
     )
 
 -- a key is hashed by the octets of its name, and its type
@@ -83,4 +88,5 @@ AsksOnce o = (q : Question) × ((questions_of o).0 ≡ q ∷ [])
 
 -- the key of octets that are a request; none where its question is unreadable
 abbrev pub key_of : List ℕ → Option AskedKey
-key_of o = if asks_once o && not (names_subnet (opt_of o)) then option_map (question_key (wants_dnssec (opt_of o))) (first_of (questions_of o).0) else None
+key_of o = if asks_once o && not (names_subnet (opt_of o))
+    then option_map (question_key (wants_dnssec (opt_of o))) (first_of (questions_of o).0) else None

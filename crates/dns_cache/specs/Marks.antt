@@ -50,8 +50,10 @@ MarksOf (Ok m) marks = HasMarks m marks
 MarksOf (Err e) marks = Unit {0}
 
 -- the records of three sections are marked one behind another, the OPT records of the last left out
-abbrev pub SectionsMarked : Result (List ResourceRecord) ParseError → Result (List ResourceRecord) ParseError → Result (List ResourceRecord) ParseError → List Mark → Type 0
-SectionsMarked answers authority additional marks = (m : List Mark) × (n : List Mark) × AreMarked true answers [] m × AreMarked true authority m n × AreMarked false additional n marks
+abbrev pub SectionsMarked : Result (List ResourceRecord) ParseError → Result (List ResourceRecord) ParseError
+    → Result (List ResourceRecord) ParseError → List Mark → Type 0
+SectionsMarked answers authority additional marks = (m : List Mark) × (n : List Mark) × AreMarked true answers [] m
+    × AreMarked true authority m n × AreMarked false additional n marks
 
 -- the TTLs that count, of marked records but OPT
 abbrev pub counted_mark : Mark → ℕ
@@ -99,7 +101,8 @@ aged_ttl age k = if k.is_opt then k.ttl else k.ttl - age
 -- marked records, each with its TTL at an age
 abbrev pub aged_octets : ℕ → List Mark → List ℕ → List ℕ
 aged_octets age [] o = []
-aged_octets age (k ∷ ks) o = take k.before o ++ (four (aged_ttl age k) ++ (drop (k.before + 4) (take k.size o) ++ aged_octets age ks (drop k.size o)))
+aged_octets age (k ∷ ks) o = take k.before o
+    ++ (four (aged_ttl age k) ++ (drop (k.before + 4) (take k.size o) ++ aged_octets age ks (drop k.size o)))
 
 -- marks of records that stand in octets one behind another
 abbrev pub MarksFit : List Mark → List ℕ → Type 0

@@ -107,7 +107,9 @@ fn begun(
     question: &QuestionRef<'_>,
 ) -> Result<Vec<u8>, OutOfMemory>
     requires { length message.now ≤ 65535 }
-    ensures octets { IfOk result (λ v. v.items ≡ header_octets (asked_header (header_of message.now) request) ++ (0 ∷ 1 ∷ (take 6 (drop 6 message.now) ++ question_octets question.now))) }
+    ensures octets { IfOk result (λ v. v.items
+        ≡ header_octets (asked_header (header_of message.now) request)
+        ++ (0 ∷ 1 ∷ (take 6 (drop 6 message.now) ++ question_octets question.now))) }
     ensures header { IfOk result (λ v. IsHeader (asked_header (header_of message.now) request)) }
     ensures named { IfOk result (λ v. HasName question.now) }
 {
@@ -120,7 +122,8 @@ fn begun(
 
 /// Appends the header of a message as that of a reply to a request's, the count of one question, and the other counts.
 fn push_head(message: &Message, request: Header, target: &mut Vec<u8>) -> Result<(), OutOfMemory>
-    ensures octets { OnOk result (target.new.items ≡ target.old.items ++ (header_octets (asked_header (header_of message.now) request) ++ (0 ∷ 1 ∷ take 6 (drop 6 message.now)))) }
+    ensures octets { OnOk result (target.new.items
+        ≡ target.old.items ++ (header_octets (asked_header (header_of message.now) request) ++ (0 ∷ 1 ∷ take 6 (drop 6 message.now)))) }
     ensures header { OnOk result (IsHeader (asked_header (header_of message.now) request)) }
 {
     let header = asked(message.header(), request);
@@ -163,7 +166,8 @@ fn push_aged(
 /// Appends a record with its TTL lowered by an age.
 fn push_record(octets: &[u8], mark: Mark, age: u32, target: &mut Vec<u8>) -> Result<(), OutOfMemory>
     requires { mark.before + 4 ≤ length octets.now }
-    ensures { OnOk result (target.new.items ≡ target.old.items ++ (take mark.before octets.now ++ (four (aged_ttl age mark) ++ drop (mark.before + 4) octets.now))) }
+    ensures { OnOk result (target.new.items ≡ target.old.items
+        ++ (take mark.before octets.now ++ (four (aged_ttl age mark) ++ drop (mark.before + 4) octets.now))) }
 {
     let before = mark.before as usize;
     target.extend_from_slice(&octets[..before])?;

@@ -119,7 +119,8 @@ impl Cache {
         request: &Request<()>,
         k: u64,
     ) -> Result<Turned, OutOfMemory>
-        ensures answer { IfOk result (λ p. AnswersCached (asked_cache self.old request.now k (S.answer service.now request.now k)).cached (S.answer service.now request.now k) p) }
+        ensures answer { IfOk result (λ p. AnswersCached
+            (asked_cache self.old request.now k (S.answer service.now request.now k)).cached (S.answer service.now request.now k) p) }
         ensures cache { OnOk result (self.new ≡ (asked_cache self.old request.now k (S.answer service.now request.now k)).behind) }
         ensures err { OnErr result (self.new ≡ self.old) }
     {
@@ -140,7 +141,8 @@ impl Cache {
         key: CacheKey,
     ) -> Result<Turned, OutOfMemory>
         requires { key_of request.now.octets ≡ Some key }
-        ensures answer { IfOk result (λ p. AnswersCached (asked_cache self.old request.now k (S.answer service.now request.now k)).cached (S.answer service.now request.now k) p) }
+        ensures answer { IfOk result (λ p. AnswersCached
+            (asked_cache self.old request.now k (S.answer service.now request.now k)).cached (S.answer service.now request.now k) p) }
         ensures cache { OnOk result (self.new ≡ (asked_cache self.old request.now k (S.answer service.now request.now k)).behind) }
         ensures err { OnErr result (self.new ≡ self.old) }
     {
@@ -178,7 +180,8 @@ impl Cache {
         key: &CacheKey,
     ) -> Result<Option<ReplyMessage>, OutOfMemory>
         requires { key_of request.now.octets ≡ Some key.now }
-        ensures reply { IfOk result (λ r. GivesMessage (option_and_then (young_message request.now) (lookup (same_key key.now) self.old.entries)) r) }
+        ensures reply { IfOk result (λ r. GivesMessage
+            (option_and_then (young_message request.now) (lookup (same_key key.now) self.old.entries)) r) }
         ensures used { IfOk result (λ r. (self.new ≡ used_where r key.now self.old)) }
         ensures err { OnErr result (self.new ≡ self.old) }
     {

@@ -214,8 +214,10 @@ impl CachedReply {
 
     /// How many octets the message takes with a question in place of its own, at any age.
     fn size_with(&self, question: &QuestionRef<'_>) -> usize
-        ensures size { (request : List ℕ) (age : ℕ) → (questions_of request).0 ≡ question.now ∷ [] → result ≡ length (wire (aged self.now.message request age)) }
-        ensures readable { (request : List ℕ) (age : ℕ) → (questions_of request).0 ≡ question.now ∷ [] → IsHeader (header_of request) → is_ok (copied (wire (aged self.now.message request age))) ≡ true }
+        ensures size { (request : List ℕ) (age : ℕ) → (questions_of request).0 ≡ question.now ∷ []
+            → result ≡ length (wire (aged self.now.message request age)) }
+        ensures readable { (request : List ℕ) (age : ℕ) → (questions_of request).0 ≡ question.now ∷ []
+            → IsHeader (header_of request) → is_ok (copied (wire (aged self.now.message request age))) ≡ true }
     {
         let records = self.message.as_slice().len() - self.start;
         12 + question.compose_len() + records + opt_size(&self.opt)
@@ -223,8 +225,10 @@ impl CachedReply {
 
     /// Whether the message fits with a question in place of its own, at any age.
     pub(crate) fn fits(&self, question: &QuestionRef<'_>) -> bool
-        ensures fits { (request : List ℕ) (age : ℕ) → (questions_of request).0 ≡ question.now ∷ [] → result ≡ fits_frame (aged self.now.message request age) }
-        ensures readable { (request : List ℕ) (age : ℕ) → (questions_of request).0 ≡ question.now ∷ [] → IsHeader (header_of request) → is_ok (copied (wire (aged self.now.message request age))) ≡ true }
+        ensures fits { (request : List ℕ) (age : ℕ) → (questions_of request).0 ≡ question.now ∷ []
+            → result ≡ fits_frame (aged self.now.message request age) }
+        ensures readable { (request : List ℕ) (age : ℕ) → (questions_of request).0 ≡ question.now ∷ []
+            → IsHeader (header_of request) → is_ok (copied (wire (aged self.now.message request age))) ≡ true }
     {
         self.size_with(question) <= 65535
     }

@@ -55,7 +55,8 @@ fn mark_sections(
     authority: RecordIter<'_>,
     additional: RecordIter<'_>,
 ) -> Result<Vec<Mark>, OutOfMemory>
-    ensures { IfOk result (λ marks. SectionsMarked (copied_records answers.entry) (copied_records authority.entry) (copied_records additional.entry) marks.items) }
+    ensures { IfOk result (λ marks. SectionsMarked (copied_records answers.entry) (copied_records authority.entry)
+        (copied_records additional.entry) marks.items) }
 {
     let mut marks = Vec::new(alloc);
     mark_section(alloc, answers, true, &mut marks)?;

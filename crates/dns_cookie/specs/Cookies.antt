@@ -87,7 +87,8 @@ response secret c timestamp address =
 
 -- a check of a standard server cookie asks the caller once whether its timestamp is accepted, and is
 -- true exactly where it is and the hash agrees
-pub record IsChecked (accepts : Serial → Bool → Type 0) (secret client : List ℕ) (address : IpAddr) (s : List ℕ) (result : Bool) : Type 0 where
+pub record IsChecked (accepts : Serial → Bool → Type 0) (secret client : List ℕ) (address : IpAddr) (s : List ℕ)
+    (result : Bool) : Type 0 where
   pub accepted : Bool
   pub asked : accepts (record { 0 = timestamp_of s }) accepted
   pub verdict : IsTrue result ↔ (IsTrue accepted × HashAgrees secret client address s)

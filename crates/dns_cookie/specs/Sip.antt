@@ -26,7 +26,12 @@ round s =
 
 -- the state under the key's two halves
 abbrev pub start : ℕ → ℕ → State
-start k0 k1 = record { v0 = bit_xor k0 0x736f_6d65_7073_6575; v1 = bit_xor k1 0x646f_7261_6e64_6f6d; v2 = bit_xor k0 0x6c79_6765_6e65_7261; v3 = bit_xor k1 0x7465_6462_7974_6573 }
+start k0 k1 = record {
+  v0 = bit_xor k0 0x736f_6d65_7073_6575;
+  v1 = bit_xor k1 0x646f_7261_6e64_6f6d;
+  v2 = bit_xor k0 0x6c79_6765_6e65_7261;
+  v3 = bit_xor k1 0x7465_6462_7974_6573;
+}
 
 -- the state after a word: two rounds between two exclusive ors
 abbrev pub take_word : State → ℕ → State

@@ -26,8 +26,10 @@ pub fn check_at(cookie: &Cookie, client_ip: IpAddr, secret: &[u8; 16], now: Seri
 /// The cookie of a response, checked for the same address under the same secret, checks true exactly where the closure
 /// accepts its timestamp, and is good exactly as long as that is timely.
 pub fn responses_check<F: FnOnce(Serial) -> bool>()
-    ensures check { (f : F) (secret : List ℕ) (c : Parts) (timestamp : ℕ) (address : Address) (result : Bool) → timestamp < 2 ^ 32 → Checks (F.post f) secret address (response secret c timestamp address) result ↔ F.post f (record { 0 = timestamp }) result }
-    ensures good { (secret : List ℕ) (c : Parts) (timestamp now : ℕ) (address : Address) → timestamp < 2 ^ 32 → IsGood secret address now (response secret c timestamp address) ↔ IsTimely timestamp now }
+    ensures check { (f : F) (secret : List ℕ) (c : Parts) (timestamp : ℕ) (address : Address) (result : Bool) → timestamp < 2 ^ 32
+        → Checks (F.post f) secret address (response secret c timestamp address) result ↔ F.post f (record { 0 = timestamp }) result }
+    ensures good { (secret : List ℕ) (c : Parts) (timestamp now : ℕ) (address : Address) → timestamp < 2 ^ 32
+        → IsGood secret address now (response secret c timestamp address) ↔ IsTimely timestamp now }
 {}
 
 /// Cookies are ordered by their octets.

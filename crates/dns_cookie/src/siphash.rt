@@ -83,7 +83,8 @@ fn number(a: u8, b: u8, c: u8, d: u8, e: u8, f: u8, g: u8, h: u8) -> u64
 /// The first eight octets as a little-endian number, and what follows them.
 #[tactic(auto, using(crate::proofs::Words::word_8))]
 fn first_word(octets: &[u8]) -> Option<(u64, &[u8])>
-    ensures { MatchOption result (length octets.now < 8) (λ p. (8 ≤ length octets.now) × (p.0 ≡ word (take 8 octets.now)) × (p.1.now ≡ drop 8 octets.now)) }
+    ensures { MatchOption result (length octets.now < 8)
+        (λ p. (8 ≤ length octets.now) × (p.0 ≡ word (take 8 octets.now)) × (p.1.now ≡ drop 8 octets.now)) }
 {
     let [a, b, c, d, e, f, g, h, rest @ ..] = octets else {
         return None;

@@ -27,7 +27,8 @@ module _ {W R F : Type 0} (answer : PolledRequest F R → ℕ → Answer) (answe
   -- the cores of the members that aren't spent, which heard the book's version, the numbers that were used, and the book, whose
   -- version counts the events at most
   pub record Serves (settings : Settings) (q : List Event) (server : Server W R F) : Type 0 where
-    pub clients : (c : ℕ) → Holds answer answers (get nat_cmp server.clients c) (list_any (nat_eq c) (members answers settings q)) (slate answers settings c q)
+    pub clients : (c : ℕ) → Holds answer answers (get nat_cmp server.clients c) (list_any (nat_eq c) (members answers settings q))
+        (slate answers settings c q)
     pub versions : (c : ℕ) → IsAt (get nat_cmp server.clients c) server.book.version
     pub used : (c : ℕ) → contains nat_cmp server.used c ≡ not (is_unused (slate answers settings c q).phase)
     pub slots : server.book.taken ≡ taken answers settings q (members answers settings q)
@@ -36,9 +37,11 @@ module _ {W R F : Type 0} (answer : PolledRequest F R → ℕ → Answer) (answe
 
   -- whatever the settings and the events before, of which there are fewer than versions, e is answered as it is to be
   abbrev pub Goes : Server W R F → Server W R F → Event → List Output → Type 0
-  Goes old new e outs = (settings : Settings) (q : List Event) → length q < last_version → Serves settings q old → (outs ≡ gained answers settings q e) × Serves settings (q ++ e ∷ []) new
+  Goes old new e outs = (settings : Settings) (q : List Event) → length q < last_version → Serves settings q old
+      → (outs ≡ gained answers settings q e) × Serves settings (q ++ e ∷ []) new
 
   -- whatever the settings and the events before, of which there are fewer than versions, what is appended is what is sent for e
   -- behind them. So a server that is stepped through a list has appended what is sent for that list
   abbrev pub AddsOutputs : Server W R F → Server W R F → Event → List Output → List Output → Type 0
-  AddsOutputs old new e outs all = (settings : Settings) (q : List Event) → length q < last_version → Serves settings q old → SendsFor answers settings q e outs all × Serves settings (q ++ e ∷ []) new
+  AddsOutputs old new e outs all = (settings : Settings) (q : List Event) → length q < last_version → Serves settings q old
+      → SendsFor answers settings q e outs all × Serves settings (q ++ e ∷ []) new

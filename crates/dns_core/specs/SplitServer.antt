@@ -25,16 +25,19 @@ pub record SendsForStep (answers : Serving) (settings : Settings) (q : List Step
 module _ {W R F : Type 0} (answer : PolledRequest F R → ℕ → Answer) (answers : Serving) where
   -- the cores of the members that aren't spent, each at the version of its last look, the numbers that were used, and the book
   pub record ServesSteps (settings : Settings) (q : List Step) (server : Server W R F) : Type 0 where
-    pub clients : (c : ℕ) → Holds answer answers (get nat_cmp server.clients c) (list_any (nat_eq c) (membership answers settings q).members) (placed_slate answers settings c q)
+    pub clients : (c : ℕ) → Holds answer answers (get nat_cmp server.clients c)
+        (list_any (nat_eq c) (membership answers settings q).members) (placed_slate answers settings c q)
     pub versions : (c : ℕ) → IsAt (get nat_cmp server.clients c) (knows settings c q).seen.version
     pub used : (c : ℕ) → contains nat_cmp server.used c ≡ not (is_unused (placed_slate answers settings c q).phase)
     pub book : server.book ≡ (membership answers settings q).book
 
   -- whatever the settings and the steps before, s is answered as it is to be
   abbrev pub StepGoes : Server W R F → Server W R F → Step → List Output → Type 0
-  StepGoes old new s sent = (settings : Settings) (q : List Step) → ServesSteps settings q old → (sent ≡ step_gained answers settings q s) × ServesSteps settings (q ++ s ∷ []) new
+  StepGoes old new s sent = (settings : Settings) (q : List Step) → ServesSteps settings q old
+      → (sent ≡ step_gained answers settings q s) × ServesSteps settings (q ++ s ∷ []) new
 
   -- whatever the settings and the steps before, what is appended is what is sent for s behind them. So a server that is stepped
   -- through a list has appended what is sent for that list
   abbrev pub AddsStep : Server W R F → Server W R F → Step → List Output → List Output → Type 0
-  AddsStep old new s before all = (settings : Settings) (q : List Step) → ServesSteps settings q old → SendsForStep answers settings q s before all × ServesSteps settings (q ++ s ∷ []) new
+  AddsStep old new s before all = (settings : Settings) (q : List Step) → ServesSteps settings q old
+      → SendsForStep answers settings q s before all × ServesSteps settings (q ++ s ∷ []) new

@@ -23,7 +23,8 @@ module _ (answers : Serving) (settings : Settings) where
 
   -- the client of e begins with it: its number was unused, and is used now
   unfoldable pub is_first : List Step → Event → Bool
-  is_first q e = is_unused (placed_slate answers settings e.client q).phase && not (is_unused (placed_slate answers settings e.client (q ++ Own e ∷ [])).phase)
+  is_first q e = is_unused (placed_slate answers settings e.client q).phase
+      && not (is_unused (placed_slate answers settings e.client (q ++ Own e ∷ [])).phase)
 
   -- a client that began, and is no exchange and no connection
   abbrev pub was_refused : ℕ → List Step → Bool
@@ -31,7 +32,8 @@ module _ (answers : Serving) (settings : Settings) where
 
   -- an offer under an unused number, before a shutdown, for which every slot is taken
   abbrev pub finds_no_slot : List Step → Event → Bool
-  finds_no_slot q e = is_offer e.kind && (is_unused (placed_slate answers settings e.client q).phase && (not (membership answers settings q).book.closed && not (has_slot (membership answers settings q).book)))
+  finds_no_slot q e = is_offer e.kind && (is_unused (placed_slate answers settings e.client q).phase
+      && (not (membership answers settings q).book.closed && not (has_slot (membership answers settings q).book)))
 
   -- one of some steps is such an offer of a client
   pub record TurnedAwayIn (c : ℕ) (steps : List Step) : Type 0 where

@@ -78,7 +78,8 @@ is_open _ = false
 -- a message refuses a response: it is FORMERR (RFC 1035, section 4.1.1) to octets with QR set, cut to a limit in a datagram, and
 -- behind its length in a frame
 abbrev pub Refuses : Output → Type 0
-Refuses (Datagram client o) = (response : List ℕ) × (hint : Option ℕ) × ((header_of response).qr ≡ true) × (o ≡ wire (cut (limit hint) (error_reply response 1)))
+Refuses (Datagram client o) = (response : List ℕ) × (hint : Option ℕ) × ((header_of response).qr ≡ true)
+    × (o ≡ wire (cut (limit hint) (error_reply response 1)))
 Refuses (Frame client o) = (response : List ℕ) × ((header_of response).qr ≡ true) × (o ≡ framed (wire (error_reply response 1)))
 Refuses _ = ⊥
 
@@ -119,7 +120,8 @@ module _ (answers : Serving) where
   abbrev pub drops : ℕ → SlateRequest → Slate → Bool
   drops at r s =
       let a = answers.answer r.request r.polls in
-      not r.done && (not (is_some r.held) && (is_some (sent_for answers r.request a) && (not (room at s) && not (is_in_transaction (answered a r).status))))
+      not r.done && (not (is_some r.held) && (is_some (sent_for answers r.request a)
+      && (not (room at s) && not (is_in_transaction (answered a r).status))))
 
   abbrev pub dropped_of : ℕ → ℕ → Option SlateRequest → Slate → List Origin
   dropped_of at k None s = []

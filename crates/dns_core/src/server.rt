@@ -72,8 +72,10 @@ impl<W: SharedService> Server<W> {
         requires can_call { W.can_call service.now }
         requires own { is_wide event.now.kind ≡ false }
         requires begins { is_beginning event.now.kind ≡ false }
-        ensures goes { IfOk result (λ outs. Goes (request_answer W.Future.answer W.Stream.answer) (serving (W.answer service.now) (W.hint service.now)) self.old self.new event.now outs.items) }
-        ensures steps { IfOk result (λ outs. StepGoes (request_answer W.Future.answer W.Stream.answer) (serving (W.answer service.now) (W.hint service.now)) self.old self.new (Step.Own event.now) outs.items) }
+        ensures goes { IfOk result (λ outs. Goes (request_answer W.Future.answer W.Stream.answer)
+            (serving (W.answer service.now) (W.hint service.now)) self.old self.new event.now outs.items) }
+        ensures steps { IfOk result (λ outs. StepGoes (request_answer W.Future.answer W.Stream.answer)
+            (serving (W.answer service.now) (W.hint service.now)) self.old self.new (Step.Own event.now) outs.items) }
     {
         let (outs, freed) = step_at(alloc, service, &mut self.clients, event)?;
         give_back(&mut self.book, freed);
@@ -83,7 +85,8 @@ impl<W: SharedService> Server<W> {
     /// An event that all clients hear: it acts on the book, at which they look then, by rising number.
     fn wide(&mut self, alloc: Global, event: &Event) -> Result<Vec<Output>, OutOfMemory>
         requires { is_wide event.now.kind ≡ true }
-        ensures { (answers : Serving) → IfOk result (λ outs. Goes (request_answer W.Future.answer W.Stream.answer) answers self.old self.new event.now outs.items) }
+        ensures { (answers : Serving) → IfOk result
+            (λ outs. Goes (request_answer W.Future.answer W.Stream.answer) answers self.old self.new event.now outs.items) }
     {
         note(&mut self.book, &event.kind);
         let look = self.book.shown();
@@ -106,8 +109,10 @@ impl<W: SharedService> Server<W> {
         requires shown { look.now ≡ self.old.book }
         requires running { look.now.closed ≡ false }
         requires unused { contains nat_cmp self.old.used event.now.client ≡ false }
-        ensures goes { IfOk result (λ outs. Goes (request_answer W.Future.answer W.Stream.answer) (serving (W.answer service.now) (W.hint service.now)) self.old self.new event.now outs.items) }
-        ensures steps { IfOk result (λ outs. StepGoes (request_answer W.Future.answer W.Stream.answer) (serving (W.answer service.now) (W.hint service.now)) self.old self.new (Step.Own event.now) outs.items) }
+        ensures goes { IfOk result (λ outs. Goes (request_answer W.Future.answer W.Stream.answer)
+            (serving (W.answer service.now) (W.hint service.now)) self.old self.new event.now outs.items) }
+        ensures steps { IfOk result (λ outs. StepGoes (request_answer W.Future.answer W.Stream.answer)
+            (serving (W.answer service.now) (W.hint service.now)) self.old self.new (Step.Own event.now) outs.items) }
     {
         let (core, outs) = ClientCore::datagram(
             alloc,
@@ -133,8 +138,10 @@ impl<W: SharedService> Server<W> {
     ) -> Result<Vec<Output>, OutOfMemory>
         requires can_call { W.can_call service.now }
         requires kind { event.now.kind ≡ EventKind.Datagram addr octets.now }
-        ensures goes { IfOk result (λ outs. Goes (request_answer W.Future.answer W.Stream.answer) (serving (W.answer service.now) (W.hint service.now)) self.old self.new event.now outs.items) }
-        ensures steps { IfOk result (λ outs. StepGoes (request_answer W.Future.answer W.Stream.answer) (serving (W.answer service.now) (W.hint service.now)) self.old self.new (Step.Own event.now) outs.items) }
+        ensures goes { IfOk result (λ outs. Goes (request_answer W.Future.answer W.Stream.answer)
+            (serving (W.answer service.now) (W.hint service.now)) self.old self.new event.now outs.items) }
+        ensures steps { IfOk result (λ outs. StepGoes (request_answer W.Future.answer W.Stream.answer)
+            (serving (W.answer service.now) (W.hint service.now)) self.old self.new (Step.Own event.now) outs.items) }
     {
         let look = self.book.shown();
         if look.closed || self.used.contains(&event.client) {
@@ -156,10 +163,12 @@ impl<W: SharedService> Server<W> {
         requires unused { contains nat_cmp self.old.used event.now.client ≡ false }
         ensures goes { (answers : Serving) (before : TheLook)
             → Admits before (Admission.Admitted look.now) → self.old.book ≡ state_after before Admit
-            → IfOk result (λ outs. Goes (request_answer W.Future.answer W.Stream.answer) answers (record self.old { book = before }) self.new event.now outs.items) }
+            → IfOk result (λ outs. Goes (request_answer W.Future.answer W.Stream.answer) answers
+            (record self.old { book = before }) self.new event.now outs.items) }
         ensures steps { (answers : Serving) (before : TheLook)
             → Admits before (Admission.Admitted look.now) → self.old.book ≡ state_after before Admit
-            → IfOk result (λ outs. StepGoes (request_answer W.Future.answer W.Stream.answer) answers (record self.old { book = before }) self.new (Step.Own event.now) outs.items) }
+            → IfOk result (λ outs. StepGoes (request_answer W.Future.answer W.Stream.answer) answers
+            (record self.old { book = before }) self.new (Step.Own event.now) outs.items) }
     {
         let core = ClientCore::admit(alloc, event.client, addr, event.at, look)?;
         let nothing = Vec::new(alloc);
@@ -181,8 +190,10 @@ impl<W: SharedService> Server<W> {
         addr: SocketAddr,
     ) -> Result<Vec<Output>, OutOfMemory>
         requires { event.now.kind ≡ EventKind.Offer addr }
-        ensures goes { (answers : Serving) → IfOk result (λ outs. Goes (request_answer W.Future.answer W.Stream.answer) answers self.old self.new event.now outs.items) }
-        ensures steps { (answers : Serving) → IfOk result (λ outs. StepGoes (request_answer W.Future.answer W.Stream.answer) answers self.old self.new (Step.Own event.now) outs.items) }
+        ensures goes { (answers : Serving) → IfOk result
+            (λ outs. Goes (request_answer W.Future.answer W.Stream.answer) answers self.old self.new event.now outs.items) }
+        ensures steps { (answers : Serving) → IfOk result
+            (λ outs. StepGoes (request_answer W.Future.answer W.Stream.answer) answers self.old self.new (Step.Own event.now) outs.items) }
     {
         if self.used.contains(&event.client) {
             return Ok(Vec::new(alloc));
@@ -199,7 +210,8 @@ impl<W: SharedService> Server<W> {
     /// One event of any kind.
     fn one(&mut self, alloc: Global, service: &W, event: &Event) -> Result<Vec<Output>, OutOfMemory>
         requires { W.can_call service.now }
-        ensures { IfOk result (λ outs. Goes (request_answer W.Future.answer W.Stream.answer) (serving (W.answer service.now) (W.hint service.now)) self.old self.new event.now outs.items) }
+        ensures { IfOk result (λ outs. Goes (request_answer W.Future.answer W.Stream.answer)
+            (serving (W.answer service.now) (W.hint service.now)) self.old self.new event.now outs.items) }
     {
         match &event.kind {
             EventKind::Datagram { addr, octets } => {
@@ -221,7 +233,8 @@ impl<W: SharedService> Server<W> {
         outs: &mut Vec<Output>,
     ) -> Result<(), OutOfMemory>
         requires { W.can_call service.now }
-        ensures ok { OnOk result (AddsOutputs (request_answer W.Future.answer W.Stream.answer) (serving (W.answer service.now) (W.hint service.now)) self.old self.new event.now outs.old.items outs.new.items) }
+        ensures ok { OnOk result (AddsOutputs (request_answer W.Future.answer W.Stream.answer)
+            (serving (W.answer service.now) (W.hint service.now)) self.old self.new event.now outs.old.items outs.new.items) }
         ensures kept { OnErr result (outs.new.items ≡ outs.old.items) }
     {
         let more = self.one(alloc, service, event)?;
@@ -255,7 +268,9 @@ fn each_event<W: SharedService>(
 ) -> Result<(), OutOfMemory>
     requires can_call { W.can_call service.now }
     requires nothing { outs.old.items ≡ [] }
-    ensures { OnOk result ((settings : TheSettings) → Serves (request_answer W.Future.answer W.Stream.answer) (serving (W.answer service.now) (W.hint service.now)) settings [] server.old
+    ensures { OnOk result ((settings : TheSettings)
+        → Serves (request_answer W.Future.answer W.Stream.answer)
+        (serving (W.answer service.now) (W.hint service.now)) settings [] server.old
         → outs.new.items ≡ out (serving (W.answer service.now) (W.hint service.now)) settings events.now) }
 {
     for event in events {
@@ -290,7 +305,9 @@ pub fn serve_events<S: Service<()>, N: Notifiable>(
     events: &[Event],
 ) -> Result<Vec<Output>, OutOfMemory>
     requires { S.can_call service }
-    ensures { IfOk result (λ outs. outs.items ≡ out (serving (replies settings.now (S.answer service) (verdict_on (N.verdict target))) (hint_left settings.now)) settings.now events.now) }
+    ensures { IfOk result (λ outs. outs.items
+        ≡ out (serving (replies settings.now (S.answer service) (verdict_on (N.verdict target))) (hint_left settings.now))
+        settings.now events.now) }
 {
     let service = wrap(alloc, settings, service, target)?;
     serve(alloc, settings, &WithoutMeta { service }, events)

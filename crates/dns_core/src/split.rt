@@ -39,7 +39,8 @@ impl<W: SharedService> SplitServer<W> {
     /// An event that all clients hear acts on the book alone.
     fn wide(&mut self, event: &Event)
         requires { is_wide event.now.kind ≡ true }
-        ensures { (answers : Serving) → StepGoes (request_answer W.Future.answer W.Stream.answer) answers self.old.inner self.new.inner (Step.Own event.now) [] }
+        ensures { (answers : Serving) → StepGoes
+            (request_answer W.Future.answer W.Stream.answer) answers self.old.inner self.new.inner (Step.Own event.now) [] }
     {
         note(&mut self.inner.book, &event.kind);
     }
@@ -52,7 +53,9 @@ impl<W: SharedService> SplitServer<W> {
         secs: u64,
         client: u64,
     ) -> Result<Vec<Output>, OutOfMemory>
-        ensures { IfOk result (λ outs. (answers : Serving) → StepGoes (request_answer W.Future.answer W.Stream.answer) answers self.old.inner self.new.inner (Step.Look at secs client) outs.items) }
+        ensures { IfOk result (λ outs. (answers : Serving)
+            → StepGoes (request_answer W.Future.answer W.Stream.answer) answers self.old.inner self.new.inner
+            (Step.Look at secs client) outs.items) }
     {
         let look = self.inner.book.shown();
         let outs = look_at(alloc, &mut self.inner.clients, client, &look)?;
@@ -62,7 +65,8 @@ impl<W: SharedService> SplitServer<W> {
     /// One event of any kind.
     fn one(&mut self, alloc: Global, service: &W, event: &Event) -> Result<Vec<Output>, OutOfMemory>
         requires { W.can_call service.now }
-        ensures { IfOk result (λ outs. StepGoes (request_answer W.Future.answer W.Stream.answer) (serving (W.answer service.now) (W.hint service.now)) self.old.inner self.new.inner (Step.Own event.now) outs.items) }
+        ensures { IfOk result (λ outs. StepGoes (request_answer W.Future.answer W.Stream.answer)
+            (serving (W.answer service.now) (W.hint service.now)) self.old.inner self.new.inner (Step.Own event.now) outs.items) }
     {
         match &event.kind {
             EventKind::Datagram { addr, octets } => {
@@ -81,7 +85,8 @@ impl<W: SharedService> SplitServer<W> {
     /// Takes one step.
     fn take(&mut self, alloc: Global, service: &W, step: &Step) -> Result<Vec<Output>, OutOfMemory>
         requires { W.can_call service.now }
-        ensures { IfOk result (λ outs. StepGoes (request_answer W.Future.answer W.Stream.answer) (serving (W.answer service.now) (W.hint service.now)) self.old.inner self.new.inner step.now outs.items) }
+        ensures { IfOk result (λ outs. StepGoes (request_answer W.Future.answer W.Stream.answer)
+            (serving (W.answer service.now) (W.hint service.now)) self.old.inner self.new.inner step.now outs.items) }
     {
         match step {
             Step::Own(event) => self.one(alloc, service, event),
@@ -102,7 +107,8 @@ impl<W: SharedService> SplitServer<W> {
         outs: &mut Vec<Output>,
     ) -> Result<(), OutOfMemory>
         requires { W.can_call service.now }
-        ensures ok { OnOk result (AddsStep (request_answer W.Future.answer W.Stream.answer) (serving (W.answer service.now) (W.hint service.now)) self.old.inner self.new.inner step.now outs.old.items outs.new.items) }
+        ensures ok { OnOk result (AddsStep (request_answer W.Future.answer W.Stream.answer)
+            (serving (W.answer service.now) (W.hint service.now)) self.old.inner self.new.inner step.now outs.old.items outs.new.items) }
         ensures kept { OnErr result (outs.new.items ≡ outs.old.items) }
     {
         let more = self.take(alloc, service, step)?;
@@ -121,7 +127,9 @@ fn each_step<W: SharedService>(
 ) -> Result<(), OutOfMemory>
     requires can_call { W.can_call service.now }
     requires nothing { sent.old.items ≡ [] }
-    ensures { OnOk result ((settings : TheSettings) → ServesSteps (request_answer W.Future.answer W.Stream.answer) (serving (W.answer service.now) (W.hint service.now)) settings [] server.old.inner
+    ensures { OnOk result ((settings : TheSettings)
+        → ServesSteps (request_answer W.Future.answer W.Stream.answer)
+        (serving (W.answer service.now) (W.hint service.now)) settings [] server.old.inner
         → sent.new.items ≡ outs (serving (W.answer service.now) (W.hint service.now)) settings steps.now) }
 {
     for step in steps {
@@ -156,7 +164,9 @@ pub fn serve_steps<S: Service<()>, N: Notifiable>(
     steps: &[Step],
 ) -> Result<Vec<Output>, OutOfMemory>
     requires { S.can_call service }
-    ensures { IfOk result (λ result. result.items ≡ outs (serving (replies settings.now (S.answer service) (verdict_on (N.verdict target))) (hint_left settings.now)) settings.now steps.now) }
+    ensures { IfOk result (λ result. result.items
+        ≡ outs (serving (replies settings.now (S.answer service) (verdict_on (N.verdict target))) (hint_left settings.now))
+        settings.now steps.now) }
 {
     let service = wrap(alloc, settings, service, target)?;
     serve_each_step(alloc, settings, &WithoutMeta { service }, steps)

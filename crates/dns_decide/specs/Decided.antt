@@ -31,14 +31,20 @@ is_pass (Pass q) = true
 is_pass _ = false
 
 -- whatever service is inside, a decision answers as the service in its layers
-abbrev pub AnswersReplies : {V Meta : Type 0} → (V → ℕ → PolledVerdict) → Settings → (Notice → ℕ → PolledVerdict) → Req Meta → Decision V → Type 0
-AnswersReplies {V} {Meta} verdict s tgt r d = (svc : Req Meta → ℕ → Answer) (k : ℕ) → decided verdict (svc (passed s r)) d k ≡ replies s svc tgt r k
+abbrev pub AnswersReplies : {V Meta : Type 0} → (V → ℕ → PolledVerdict) → Settings → (Notice → ℕ → PolledVerdict) → Req Meta
+    → Decision V → Type 0
+AnswersReplies {V} {Meta} verdict s tgt r d = (svc : Req Meta → ℕ → Answer) (k : ℕ)
+    → decided verdict (svc (passed s r)) d k ≡ replies s svc tgt r k
 
 -- of a request that isn't refused, a decision answers as the service in its layers
-abbrev pub AnswersUnrefused : {V Meta : Type 0} → (V → ℕ → PolledVerdict) → Settings → (Notice → ℕ → PolledVerdict) → Req Meta → Decision V → Type 0
-AnswersUnrefused {V} {Meta} verdict s tgt r d = (svc : Req Meta → ℕ → Answer) (k : ℕ) → decided verdict (svc (passed s r)) d k ≡ replies_unrefused s svc tgt r k
+abbrev pub AnswersUnrefused : {V Meta : Type 0} → (V → ℕ → PolledVerdict) → Settings → (Notice → ℕ → PolledVerdict) → Req Meta
+    → Decision V → Type 0
+AnswersUnrefused {V} {Meta} verdict s tgt r d = (svc : Req Meta → ℕ → Answer) (k : ℕ)
+    → decided verdict (svc (passed s r)) d k ≡ replies_unrefused s svc tgt r k
 
 -- and of one that the cookie layer doesn't answer, by what the target is asked
-abbrev pub AnswersNotice : {V Meta : Type 0} → (V → ℕ → PolledVerdict) → PassPlan → (Notice → ℕ → PolledVerdict) → Req Meta → Option Notice → Decision V → Type 0
+abbrev pub AnswersNotice : {V Meta : Type 0} → (V → ℕ → PolledVerdict) → PassPlan → (Notice → ℕ → PolledVerdict) → Req Meta
+    → Option Notice → Decision V → Type 0
 AnswersNotice {V} {Meta} verdict p tgt r notice d = (svc : Req Meta → ℕ → Answer) (k : ℕ)
-    → decided verdict (svc (passed_by p.size r)) d k ≡ each_rewritten p.post (λ j. notify_by tgt (λ q. svc (passed_by p.size q)) r j notice) k
+    → decided verdict (svc (passed_by p.size r)) d k
+    ≡ each_rewritten p.post (λ j. notify_by tgt (λ q. svc (passed_by p.size q)) r j notice) k

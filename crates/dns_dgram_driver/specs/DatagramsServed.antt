@@ -30,7 +30,8 @@ pub record World : Type 0 where
   pub known : Known
 
 abbrev pub world : List Event → SockTraffic → ℕ → List ClockReading → Known → World
-world noted sock_traffic failed_sends readings known = record { noted = noted; sock_traffic = sock_traffic; failed_sends = failed_sends; readings = readings; known = known }
+world noted sock_traffic failed_sends readings known
+    = record { noted = noted; sock_traffic = sock_traffic; failed_sends = failed_sends; readings = readings; known = known }
 
 -- the seat made these looks and no other calls, and keeps its name
 pub record LooksOnly (k : Known) (looks : List Look) (k' : Known) : Type 0 where
@@ -126,7 +127,8 @@ pub record ServedBy (answers : Serving) (end : DgramEnd) (count : ℕ) (start no
   pub ends : EndsBy answers end count number first looks events
   pub counted : IsFull count number → end ≡ Counted
 
--- Memory ran out: no more datagrams were received than may come, the Datagrams recorded are the first datagrams received, and what was sent is a part of what the events lead to.
+-- Memory ran out: no more datagrams were received than may come, the Datagrams recorded are the first datagrams received, and what
+-- was sent is a part of what the events lead to.
 pub record CutOff (answers : Serving) (count : ℕ) (start now : World) : Type 0 where
   pub first : Look
   pub looks : List Look

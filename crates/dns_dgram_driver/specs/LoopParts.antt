@@ -15,7 +15,8 @@ use Rattle.dns_dgram_driver.specs.declared.running.Running.{Running}
 module _ {T W D C J R F : Type 0} where
   -- what is seen of a loop, and that its objects tell
   abbrev pub loop_seen : (D → SockTraffic) → (D → ℕ) → (C → List ClockReading) → (J → List Event) → DgramLoop T W D C J R F → World
-  loop_seen sock_traffic failed_sends readings noted o = world (noted o.journal.now) (sock_traffic o.sock.now) (failed_sends o.sock.now) (readings o.clock.now) o.state.now.seat.known
+  loop_seen sock_traffic failed_sends readings noted o
+      = world (noted o.journal.now) (sock_traffic o.sock.now) (failed_sends o.sock.now) (readings o.clock.now) o.state.now.seat.known
 
   abbrev pub loop_observed : (D → Type 0) → (C → Type 0) → (J → Type 0) → DgramLoop T W D C J R F → Type 0
   loop_observed tells ticks notes o = tells o.sock.now × ticks o.clock.now × notes o.journal.now
@@ -55,10 +56,12 @@ module _ {T W D C J R F : Type 0} where
   -- and what the rounds did up to the loop's end, and what comes behind them
   pub record WentTo (failed_receives failed_sends : D → ℕ) (end : DgramEnd) (count : ℕ) (o o' : DgramLoop T W D C J R F) : Type 0 where
     pub same : SameLoop o o'
-    pub passes : PassesTo end count o.state.now o'.state.now (failed_sends o.sock.now) (failed_sends o'.sock.now) (failed_receives o.sock.now) (failed_receives o'.sock.now)
+    pub passes : PassesTo end count o.state.now o'.state.now (failed_sends o.sock.now) (failed_sends o'.sock.now)
+        (failed_receives o.sock.now) (failed_receives o'.sock.now)
 
   -- where they tell: this was done, by the result, or memory ran out
-  pub record ObservedSo {X : Type 0} (observed_by : DgramLoop T W D C J R F → Type 0) (seen : DgramLoop T W D C J R F → World) (did : X → World → Running W R F → World → Running W R F → Type 0) (broke : World → Running W R F → World → Type 0)
+  pub record ObservedSo {X : Type 0} (observed_by : DgramLoop T W D C J R F → Type 0) (seen : DgramLoop T W D C J R F → World)
+      (did : X → World → Running W R F → World → Running W R F → Type 0) (broke : World → Running W R F → World → Type 0)
       (r : Result X No_memory) (o o' : DgramLoop T W D C J R F) : Type 0 where
     pub observed : IfOk r (λ x. Observed (observed_by o') (observed_by o) (did x (seen o) o.state.now (seen o') o'.state.now))
     pub no_memory : OnErr r (Observed (observed_by o') (observed_by o) (broke (seen o) o.state.now (seen o')))

@@ -42,7 +42,8 @@ IsFaultOf event (Some fault) = (fault.kind ≡ Fault) × (fault.client ≡ event
 abbrev pub AreInOrder : Look → Bool → List RecordedPart → Type 0
 AreInOrder before ready [] = Unit {0}
 AreInOrder before ready (looked look news ∷ rs) = (kinds news ≡ news_kinds before look) × AreInOrder (seen_with before look) true rs
-AreInOrder before ready (acted event fault ∷ rs) = (ready ≡ true) × IsOwnKind event.kind × IsFaultOf event fault × AreInOrder before false rs
+AreInOrder before ready (acted event fault ∷ rs) = (ready ≡ true) × IsOwnKind event.kind × IsFaultOf event fault
+    × AreInOrder before false rs
 
 -- of a first look and the looks after it; the news of the first look are a Shutdown, where it shows one
 pub record EventsFollowLooks (first : Look) (looks : List Look) (events : List Event) : Type 0 where

@@ -48,7 +48,8 @@ pub record Ordered (first : Look) (looks : List Look) (events : List Event) (hea
 abbrev pub Among : ℕ → List ℕ → Type 0
 Among c ns = list_any (nat_eq c) ns ≡ true
 
--- Whatever socket, clock and recorder tell: the seat made looks and no other calls, of the same book. A shutdown that was heard of stays so, and a new one was
+-- Whatever socket, clock and recorder tell: the seat made looks and no other calls, of the same book. A shutdown that was heard of
+-- stays so, and a new one was
 -- shown by one of these looks. The count of failed sends rose where a failed one is known of since, and else it is the same.
 pub record PassesOn {W R F : Type 0} (s s' : Running W R F) (f f' : ℕ) : Type 0 where
   pub looks : List Look
@@ -123,20 +124,23 @@ module _ {W R F : Type 0} (answer : PolledRequest F R → ℕ → Answer) (answe
     pub plain : AllDatagramKinds events
     pub nobodys : WideAreNobodys events
     pub order : Ordered first looks events s.heard ready
-    pub input : Input answers (settings_shown first) events (first ∷ looks) (spare + count_if ready) s.next start.sock_traffic now.sock_traffic
+    pub input : Input answers (settings_shown first) events (first ∷ looks)
+        (spare + count_if ready) s.next start.sock_traffic now.sock_traffic
     pub waiting : (c : ℕ) → waits answers (settings_shown first) c events ≡ true → Among c owed
     pub clock : Clocked events start.readings now.readings start.sock_traffic.full_sends now.sock_traffic.full_sends
     pub output : Delivered answers (settings_shown first) events start.sock_traffic now.sock_traffic start.failed_sends now.failed_sends
     pub serves : ServesExchanges (settings_shown first) events s
 
   -- a step, wherever it began
-  pub record LoopGoes (w : World) (s : Running W R F) (ready : Bool) (owed : List ℕ) (w' : World) (s' : Running W R F) (ready' : Bool) (owed' : List ℕ) : Type 0 where
+  pub record LoopGoes (w : World) (s : Running W R F) (ready : Bool) (owed : List ℕ) (w' : World) (s' : Running W R F)
+      (ready' : Bool) (owed' : List ℕ) : Type 0 where
     pub over : s.heard.closed ≡ true → s'.heard.closed ≡ true
     pub goes : (first : Look) (start : World) (spare : ℕ) → Ran first start w s ready owed spare → Ran first start w' s' ready' owed' spare
 
   -- want of memory in a step, after which no more than so many datagrams were received
   pub record Breaks (most : ℕ) (w : World) (s : Running W R F) (ready : Bool) (owed : List ℕ) (w' : World) : Type 0 where
-    pub breaks : (first : Look) (start : World) (spare count : ℕ) → MayCome count most → Ran first start w s ready owed spare → CutOff answers count start w'
+    pub breaks : (first : Look) (start : World) (spare count : ℕ) → MayCome count most → Ran first start w s ready owed spare
+        → CutOff answers count start w'
 
   -- a look, whoever waits
   pub record TakesLook (w : World) (s : Running W R F) (w' : World) (s' : Running W R F) : Type 0 where
@@ -151,12 +155,15 @@ module _ {W R F : Type 0} (answer : PolledRequest F R → ℕ → Answer) (answe
     pub breaks : (owed : List ℕ) → Breaks s.next w s ready owed w'
 
   -- the front of a datagram that was received before this world is noted, and begins an exchange
-  pub record BeginsExchange (octets : List ℕ) (from : SocketAddr) (w : World) (s : Running W R F) (w' : World) (s' : Running W R F) : Type 0 where
-    pub goes : (whole : List ℕ) (m : SockTraffic) → octets ≡ take 1024 whole → w.sock_traffic ≡ record m { received = m.received ++ (record { octets = whole; addr = from }) ∷ [] }
+  pub record BeginsExchange (octets : List ℕ) (from : SocketAddr) (w : World) (s : Running W R F) (w' : World)
+      (s' : Running W R F) : Type 0 where
+    pub goes : (whole : List ℕ) (m : SockTraffic) → octets ≡ take 1024 whole
+        → w.sock_traffic ≡ record m { received = m.received ++ (record { octets = whole; addr = from }) ∷ [] }
         → LoopGoes (record w { sock_traffic = m }) s true [] w' s' false (numbers_of s'.exchanges.items)
 
   pub record BeginFails (octets : List ℕ) (from : SocketAddr) (w : World) (s : Running W R F) (w' : World) : Type 0 where
-    pub breaks : (whole : List ℕ) (m : SockTraffic) → octets ≡ take 1024 whole → w.sock_traffic ≡ record m { received = m.received ++ (record { octets = whole; addr = from }) ∷ [] }
+    pub breaks : (whole : List ℕ) (m : SockTraffic) → octets ≡ take 1024 whole
+        → w.sock_traffic ≡ record m { received = m.received ++ (record { octets = whole; addr = from }) ∷ [] }
         → Breaks (s.next + 1) (record w { sock_traffic = m }) s true [] w'
 
   -- a receive; a round, before its look or after it; the rounds; and the last polls

@@ -72,7 +72,8 @@ module _ (answers : Serving) (settings : Settings) where
 
   abbrev pub early_faults_after : List Event → List Event → ℕ
   early_faults_after q [] = 0
-  early_faults_after q (e ∷ es) = count_if (fails_before (e.at + (conf settings q).dgram.write_timeout) es) + early_faults_after (q ++ e ∷ []) es
+  early_faults_after q (e ∷ es) = count_if (fails_before (e.at + (conf settings q).dgram.write_timeout) es)
+      + early_faults_after (q ++ e ∷ []) es
 
   -- how many Faults come before the write timeout that is in force has passed since the event before them
   unfoldable pub early_faults : List Event → ℕ

@@ -92,7 +92,8 @@ SendsRose before now fails fails' = ((now ≡ before) × (fails' ≡ fails)) ⊎
 
 -- What an event led to was sent, or a Fault of its exchange was noted: late with a send that answered Again, or by a send that
 -- failed.
-pub record SendsOrFaults (head : EventHead) (packets : List Packet) (write : ℕ) (n n' : List Event) (m m' : SockTraffic) (fails fails' : ℕ) (c c' : List ClockReading) : Type 0 where
+pub record SendsOrFaults (head : EventHead) (packets : List Packet) (write : ℕ) (n n' : List Event) (m m' : SockTraffic)
+    (fails fails' : ℕ) (c c' : List ClockReading) : Type 0 where
   pub fault : Option Event
   pub late : ℕ
   pub failed : ℕ
@@ -178,16 +179,20 @@ module _ {W R F : Type 0} (answer : PolledRequest F R → ℕ → Answer) (answe
 
   -- a Turn of one exchange that is kept, and whether it is finished then
   pub record TurnedOne (old : KeptExchange W R F) (packet : Option Packet) (done : Bool) (new : KeptExchange W R F) : Type 0 where
-    pub packet_is : (e : Event) (s : Slate) → e.kind ≡ Turn 0 → IsKeptOf old s → packet ≡ packet_to (last_octets (rule answers e s).1) (rule answers e s).0.addr
+    pub packet_is : (e : Event) (s : Slate) → e.kind ≡ Turn 0 → IsKeptOf old s
+        → packet ≡ packet_to (last_octets (rule answers e s).1) (rule answers e s).0.addr
     pub done_is : (e : Event) (s : Slate) → e.kind ≡ Turn 0 → IsKeptOf old s → done ≡ is_finished (rule answers e s).0
     pub left : (e : Event) (s : Slate) → e.kind ≡ Turn 0 → IsKeptOf old s → done ≡ false → IsKeptOf new (rule answers e s).0
 
   -- its datagram, by what was heard of the book
-  pub record Begun (heard : Look) (e : Event) (addr : SocketAddr) (octets : List ℕ) (old : List (KeptExchange W R F)) (packet : Option Packet) (new : List (KeptExchange W R F)) : Type 0 where
-    pub leads : (s : Slate) → IsUnused s → s.conf ≡ conf_of heard → ExchangeLeads old packet new s (datagram e.client addr e.at e.secs octets s)
+  pub record Begun (heard : Look) (e : Event) (addr : SocketAddr) (octets : List ℕ) (old : List (KeptExchange W R F))
+      (packet : Option Packet) (new : List (KeptExchange W R F)) : Type 0 where
+    pub leads : (s : Slate) → IsUnused s → s.conf ≡ conf_of heard
+        → ExchangeLeads old packet new s (datagram e.client addr e.at e.secs octets s)
 
 -- a Turn of the first one
-pub record TurnedFirst {W R F : Type 0} (answer : PolledRequest F R → ℕ → Answer) (old : List (KeptExchange W R F)) (packet : Option Packet) (done : Bool) (new : List (KeptExchange W R F)) : Type 0 where
+pub record TurnedFirst {W R F : Type 0} (answer : PolledRequest F R → ℕ → Answer) (old : List (KeptExchange W R F))
+    (packet : Option Packet) (done : Bool) (new : List (KeptExchange W R F)) : Type 0 where
   pub behind : List (KeptExchange W R F)
   pub was : KeptExchange W R F
   pub now : KeptExchange W R F

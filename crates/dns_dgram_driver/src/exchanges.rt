@@ -73,7 +73,9 @@ pub(crate) fn begin<W: SharedService>(
     octets: Octets,
 ) -> Result<Option<Packet>, OutOfMemory>
     requires { W.can_call service.now }
-    ensures here { IfOk result (λ packet. Begun (request_answer W.Future.answer W.Stream.answer) (serving (W.answer service.now) (W.hint service.now)) state.old.heard (event_with head (Datagram addr octets)) addr octets (kept_at head.client state.old.exchanges.items) packet (kept_at head.client state.new.exchanges.items)) }
+    ensures here { IfOk result (λ packet. Begun (request_answer W.Future.answer W.Stream.answer)
+        (serving (W.answer service.now) (W.hint service.now)) state.old.heard (event_with head (Datagram addr octets)) addr octets
+        (kept_at head.client state.old.exchanges.items) packet (kept_at head.client state.new.exchanges.items)) }
     ensures others { OnOk result ((c : ℕ) → c ≢ head.client → kept_at c state.new.exchanges.items ≡ kept_at c state.old.exchanges.items) }
     ensures rest { state.new ≡ record state.old { exchanges = state.new.exchanges } }
 {
@@ -90,7 +92,8 @@ fn turn_kept<W: SharedService>(
     kept: &mut KeptExchange<W>,
 ) -> Result<(Option<Packet>, bool), OutOfMemory>
     ensures number { kept.new.number ≡ kept.old.number }
-    ensures turned { IfOk result (λ p. (answers : Serving) → TurnedOne (request_answer W.Future.answer W.Stream.answer) answers kept.old p.0 p.1 kept.new) }
+    ensures turned { IfOk result (λ p. (answers : Serving)
+        → TurnedOne (request_answer W.Future.answer W.Stream.answer) answers kept.old p.0 p.1 kept.new) }
 {
     match kept.request.turn(alloc) {
         Ok((octets, done)) => Ok((packet_to(octets, kept.addr), done)),
@@ -104,7 +107,8 @@ fn turn_front<W: SharedService>(
     exchanges: &mut VecDeque<KeptExchange<W>>,
 ) -> Result<(Option<Packet>, bool), OutOfMemory>
     requires { 0 < deque_len exchanges.old }
-    ensures { IfOk result (λ p. TurnedFirst (request_answer W.Future.answer W.Stream.answer) exchanges.old.items p.0 p.1 exchanges.new.items) }
+    ensures { IfOk result (λ p. TurnedFirst (request_answer W.Future.answer W.Stream.answer) exchanges.old.items p.0 p.1
+        exchanges.new.items) }
 {
     let (packet, done) = turn_kept(alloc, &mut exchanges[0])?;
     Ok((packet, done))
@@ -137,8 +141,10 @@ pub(crate) fn turn_first<W: SharedService>(
 ) -> Result<(Option<Packet>, bool), OutOfMemory>
     requires { 0 < deque_len exchanges.old }
     ensures here { IfOk result (λ p. (n : ℕ) (answers : Serving) → IsFirstNumber n exchanges.old.items
-        → TurnedExchange (request_answer W.Future.answer W.Stream.answer) answers (kept_at n exchanges.old.items) p.0 (kept_at n exchanges.new.items)) }
-    ensures others { OnOk result ((n c : ℕ) → IsFirstNumber n exchanges.old.items → c ≢ n → kept_at c exchanges.new.items ≡ kept_at c exchanges.old.items) }
+        → TurnedExchange (request_answer W.Future.answer W.Stream.answer) answers (kept_at n exchanges.old.items) p.0
+        (kept_at n exchanges.new.items)) }
+    ensures others { OnOk result ((n c : ℕ) → IsFirstNumber n exchanges.old.items → c ≢ n
+        → kept_at c exchanges.new.items ≡ kept_at c exchanges.old.items) }
     ensures order { IfOk result (λ p. numbers_of exchanges.new.items ≡ gone_behind p.1 (numbers_of exchanges.old.items)) }
 {
     let (packet, done) = turn_front(alloc, exchanges)?;

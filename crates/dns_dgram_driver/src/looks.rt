@@ -66,8 +66,10 @@ impl<R: Wait, W: SharedService, D: AsyncDgramSock, C: Clock, J: Recorder> DgramL
         ensures polls { OnlyPolls D.failed_receives D.failed_sends self.old self.new }
         ensures exchanges { self.new.state.now.exchanges ≡ self.old.state.now.exchanges }
         ensures observed { ObservedSo (loop_observed D.tells C.tells J.tells) (loop_seen D.sock_traffic D.failed_sends C.readings J.noted)
-            (λ u. TakesLook (request_answer W.Future.answer W.Stream.answer) (serving (W.answer self.old.service.now) (W.hint self.old.service.now)))
-            (StepFails (request_answer W.Future.answer W.Stream.answer) (serving (W.answer self.old.service.now) (W.hint self.old.service.now)) false) result self.old self.new }
+            (λ u. TakesLook (request_answer W.Future.answer W.Stream.answer)
+            (serving (W.answer self.old.service.now) (W.hint self.old.service.now)))
+            (StepFails (request_answer W.Future.answer W.Stream.answer)
+            (serving (W.answer self.old.service.now) (W.hint self.old.service.now)) false) result self.old self.new }
     {
         let look = self.book.look(self.rt, &mut self.state.seat);
         let heard = &mut self.state.heard;

@@ -59,7 +59,8 @@ pub(crate) fn note_kind<J: Recorder>(
     client: u64,
     kind: EventKind,
 ) -> Result<(), OutOfMemory>
-    ensures { Observed (J.tells journal.new) (J.tells journal.old) (NoteMoves result (record { at = at; secs = secs; client = client; kind = kind }) (J.noted journal.old) (J.noted journal.new)) }
+    ensures { Observed (J.tells journal.new) (J.tells journal.old)
+        (NoteMoves result (record { at = at; secs = secs; client = client; kind = kind }) (J.noted journal.old) (J.noted journal.new)) }
 {
     let event = Event {
         at,
@@ -119,7 +120,8 @@ pub(crate) fn note_datagram<C: Clock, J: Recorder>(
 ) -> Result<(EventHead, Octets), OutOfMemory>
     ensures of { IfOk result (λ p. (p.0.client ≡ client) × (p.1 ≡ octets.now)) }
     ensures observed { IfOk result (λ p. Observed (C.tells clock.new × J.tells journal.new) (C.tells clock.old × J.tells journal.old)
-        (EventDated (event_with p.0 (Datagram from p.1)) (J.noted journal.old) (J.noted journal.new) (C.readings clock.old) (C.readings clock.new))) }
+        (EventDated (event_with p.0 (Datagram from p.1)) (J.noted journal.old) (J.noted journal.new) (C.readings clock.old)
+        (C.readings clock.new))) }
     ensures no_memory { OnErr result (Observed (C.tells clock.new × J.tells journal.new) (C.tells clock.old × J.tells journal.old)
         (J.noted journal.new ≡ J.noted journal.old)) }
 {

@@ -30,11 +30,16 @@ impl<R: Wait, W: SharedService, D: AsyncDgramSock, C: Clock, J: Recorder> DgramL
     fn turn_noted(&mut self, head: EventHead) -> Result<bool, OutOfMemory>
         requires there { 0 < deque_len self.old.state.now.exchanges }
         requires number { IsFirstNumber head.client self.old.state.now.exchanges.items }
-        ensures order { IfOk result (λ done. numbers_of self.new.state.now.exchanges.items ≡ gone_behind done (numbers_of self.old.state.now.exchanges.items)) }
+        ensures order { IfOk result (λ done. numbers_of self.new.state.now.exchanges.items
+            ≡ gone_behind done (numbers_of self.old.state.now.exchanges.items)) }
         ensures polls { OnlyPolls D.failed_receives D.failed_sends self.old self.new }
         ensures observed { ObservedSo (loop_observed D.tells C.tells J.tells) (loop_seen D.sock_traffic D.failed_sends C.readings J.noted)
-            (λ done w s w' s'. SinceNoted (event_with head (Turn 0)) (λ v. Turns (request_answer W.Future.answer W.Stream.answer) (serving (W.answer self.old.service.now) (W.hint self.old.service.now)) head.client true v s w' s') w)
-            (λ w s w'. SinceNoted (event_with head (Turn 0)) (λ v. StepFails (request_answer W.Future.answer W.Stream.answer) (serving (W.answer self.old.service.now) (W.hint self.old.service.now)) true v s w') w) result self.old self.new }
+            (λ done w s w' s'. SinceNoted (event_with head (Turn 0))
+            (λ v. Turns (request_answer W.Future.answer W.Stream.answer)
+            (serving (W.answer self.old.service.now) (W.hint self.old.service.now)) head.client true v s w' s') w)
+            (λ w s w'. SinceNoted (event_with head (Turn 0))
+            (λ v. StepFails (request_answer W.Future.answer W.Stream.answer)
+            (serving (W.answer self.old.service.now) (W.hint self.old.service.now)) true v s w') w) result self.old self.new }
     {
         match turn_first(self.alloc, &mut self.state.exchanges) {
             Ok((packet, done)) => match self.send_for(head, packet) {
@@ -50,11 +55,14 @@ impl<R: Wait, W: SharedService, D: AsyncDgramSock, C: Clock, J: Recorder> DgramL
     fn turn(&mut self, number: u64) -> Result<bool, OutOfMemory>
         requires there { 0 < deque_len self.old.state.now.exchanges }
         requires number { IsFirstNumber number self.old.state.now.exchanges.items }
-        ensures order { IfOk result (λ done. numbers_of self.new.state.now.exchanges.items ≡ gone_behind done (numbers_of self.old.state.now.exchanges.items)) }
+        ensures order { IfOk result (λ done. numbers_of self.new.state.now.exchanges.items
+            ≡ gone_behind done (numbers_of self.old.state.now.exchanges.items)) }
         ensures polls { OnlyPolls D.failed_receives D.failed_sends self.old self.new }
         ensures observed { ObservedSo (loop_observed D.tells C.tells J.tells) (loop_seen D.sock_traffic D.failed_sends C.readings J.noted)
-            (λ done. Turns (request_answer W.Future.answer W.Stream.answer) (serving (W.answer self.old.service.now) (W.hint self.old.service.now)) number true)
-            (StepFails (request_answer W.Future.answer W.Stream.answer) (serving (W.answer self.old.service.now) (W.hint self.old.service.now)) true) result self.old self.new }
+            (λ done. Turns (request_answer W.Future.answer W.Stream.answer)
+            (serving (W.answer self.old.service.now) (W.hint self.old.service.now)) number true)
+            (StepFails (request_answer W.Future.answer W.Stream.answer)
+            (serving (W.answer self.old.service.now) (W.hint self.old.service.now)) true) result self.old self.new }
     {
         match note_turn(self.alloc, self.clock, self.journal, number) {
             Ok(head) => self.turn_noted(head),
@@ -68,11 +76,14 @@ impl<R: Wait, W: SharedService, D: AsyncDgramSock, C: Clock, J: Recorder> DgramL
         requires book { self.old.state.now.seat.book ≡ self.old.book.now }
         requires there { 0 < deque_len self.old.state.now.exchanges }
         requires number { IsFirstNumber number self.old.state.now.exchanges.items }
-        ensures order { IfOk result (λ done. numbers_of self.new.state.now.exchanges.items ≡ gone_behind done (numbers_of self.old.state.now.exchanges.items)) }
+        ensures order { IfOk result (λ done. numbers_of self.new.state.now.exchanges.items
+            ≡ gone_behind done (numbers_of self.old.state.now.exchanges.items)) }
         ensures polls { OnlyPolls D.failed_receives D.failed_sends self.old self.new }
         ensures observed { ObservedSo (loop_observed D.tells C.tells J.tells) (loop_seen D.sock_traffic D.failed_sends C.readings J.noted)
-            (λ done. Turns (request_answer W.Future.answer W.Stream.answer) (serving (W.answer self.old.service.now) (W.hint self.old.service.now)) number false)
-            (StepFails (request_answer W.Future.answer W.Stream.answer) (serving (W.answer self.old.service.now) (W.hint self.old.service.now)) false) result self.old self.new }
+            (λ done. Turns (request_answer W.Future.answer W.Stream.answer)
+            (serving (W.answer self.old.service.now) (W.hint self.old.service.now)) number false)
+            (StepFails (request_answer W.Future.answer W.Stream.answer)
+            (serving (W.answer self.old.service.now) (W.hint self.old.service.now)) false) result self.old self.new }
     {
         match self.look_once() {
             Ok(()) => self.turn(number),
@@ -84,11 +95,15 @@ impl<R: Wait, W: SharedService, D: AsyncDgramSock, C: Clock, J: Recorder> DgramL
     fn poll_first(&mut self) -> Result<bool, OutOfMemory>
         requires book { self.old.state.now.seat.book ≡ self.old.book.now }
         requires there { 0 < deque_len self.old.state.now.exchanges }
-        ensures order { IfOk result (λ done. numbers_of self.new.state.now.exchanges.items ≡ gone_behind done (numbers_of self.old.state.now.exchanges.items)) }
+        ensures order { IfOk result (λ done. numbers_of self.new.state.now.exchanges.items
+            ≡ gone_behind done (numbers_of self.old.state.now.exchanges.items)) }
         ensures polls { OnlyPolls D.failed_receives D.failed_sends self.old self.new }
         ensures observed { ObservedSo (loop_observed D.tells C.tells J.tells) (loop_seen D.sock_traffic D.failed_sends C.readings J.noted)
-            (λ done w s w' s'. (rest : List ℕ) → LoopGoes (request_answer W.Future.answer W.Stream.answer) (serving (W.answer self.old.service.now) (W.hint self.old.service.now)) w s false (take 1 (numbers_of s.exchanges.items) ++ rest) w' s' false rest)
-            (StepFails (request_answer W.Future.answer W.Stream.answer) (serving (W.answer self.old.service.now) (W.hint self.old.service.now)) false) result self.old self.new }
+            (λ done w s w' s'. (rest : List ℕ) → LoopGoes (request_answer W.Future.answer W.Stream.answer)
+            (serving (W.answer self.old.service.now) (W.hint self.old.service.now)) w s false
+            (take 1 (numbers_of s.exchanges.items) ++ rest) w' s' false rest)
+            (StepFails (request_answer W.Future.answer W.Stream.answer)
+            (serving (W.answer self.old.service.now) (W.hint self.old.service.now)) false) result self.old self.new }
     {
         let number = number_first(&self.state.exchanges);
         self.poll_one(number)
@@ -99,8 +114,11 @@ impl<R: Wait, W: SharedService, D: AsyncDgramSock, C: Clock, J: Recorder> DgramL
         requires book { self.old.state.now.seat.book ≡ self.old.book.now }
         ensures polls { OnlyPolls D.failed_receives D.failed_sends self.old self.new }
         ensures observed { ObservedSo (loop_observed D.tells C.tells J.tells) (loop_seen D.sock_traffic D.failed_sends C.readings J.noted)
-            (λ u w s w' s'. LoopGoes (request_answer W.Future.answer W.Stream.answer) (serving (W.answer self.old.service.now) (W.hint self.old.service.now)) w s false (numbers_of s.exchanges.items) w' s' false [])
-            (λ w s w'. Breaks (request_answer W.Future.answer W.Stream.answer) (serving (W.answer self.old.service.now) (W.hint self.old.service.now)) s.next w s false (numbers_of s.exchanges.items) w') result self.old self.new }
+            (λ u w s w' s'. LoopGoes (request_answer W.Future.answer W.Stream.answer)
+            (serving (W.answer self.old.service.now) (W.hint self.old.service.now)) w s false (numbers_of s.exchanges.items) w' s' false [])
+            (λ w s w'. Breaks (request_answer W.Future.answer W.Stream.answer)
+            (serving (W.answer self.old.service.now) (W.hint self.old.service.now)) s.next w s false
+            (numbers_of s.exchanges.items) w') result self.old self.new }
     {
         for _polled in 0..self.state.exchanges.len() {
             match self.poll_first() {
@@ -116,8 +134,10 @@ impl<R: Wait, W: SharedService, D: AsyncDgramSock, C: Clock, J: Recorder> DgramL
         requires book { self.old.state.now.seat.book ≡ self.old.book.now }
         ensures polls { OnlyPolls D.failed_receives D.failed_sends self.old self.new }
         ensures observed { ObservedSo (loop_observed D.tells C.tells J.tells) (loop_seen D.sock_traffic D.failed_sends C.readings J.noted)
-            (λ u. Finished (request_answer W.Future.answer W.Stream.answer) (serving (W.answer self.old.service.now) (W.hint self.old.service.now)))
-            (λ w s w'. Breaks (request_answer W.Future.answer W.Stream.answer) (serving (W.answer self.old.service.now) (W.hint self.old.service.now)) s.next w s false [] w') result self.old self.new }
+            (λ u. Finished (request_answer W.Future.answer W.Stream.answer)
+            (serving (W.answer self.old.service.now) (W.hint self.old.service.now)))
+            (λ w s w'. Breaks (request_answer W.Future.answer W.Stream.answer)
+            (serving (W.answer self.old.service.now) (W.hint self.old.service.now)) s.next w s false [] w') result self.old self.new }
     {
         for _ in self.rt.forever() {
             if self.state.exchanges.is_empty() {

@@ -51,8 +51,12 @@ impl<R: Wait, W: SharedService, D: AsyncDgramSock, C: Clock, J: Recorder> DgramL
         ensures next { self.new.state.now.next ≤ self.old.state.now.next + 1 }
         ensures receives { D.failed_receives self.new.sock.now ≡ D.failed_receives self.old.sock.now }
         ensures observed { ObservedSo (loop_observed D.tells C.tells J.tells) (loop_seen D.sock_traffic D.failed_sends C.readings J.noted)
-            (λ u w s w' s'. SinceNoted (event_with head (Datagram from octets)) (λ v. BeginsExchange (request_answer W.Future.answer W.Stream.answer) (serving (W.answer self.old.service.now) (W.hint self.old.service.now)) octets from v s w' s') w)
-            (λ w s w'. SinceNoted (event_with head (Datagram from octets)) (λ v. BeginFails (request_answer W.Future.answer W.Stream.answer) (serving (W.answer self.old.service.now) (W.hint self.old.service.now)) octets from v s w') w) result self.old self.new }
+            (λ u w s w' s'. SinceNoted (event_with head (Datagram from octets))
+            (λ v. BeginsExchange (request_answer W.Future.answer W.Stream.answer)
+            (serving (W.answer self.old.service.now) (W.hint self.old.service.now)) octets from v s w' s') w)
+            (λ w s w'. SinceNoted (event_with head (Datagram from octets))
+            (λ v. BeginFails (request_answer W.Future.answer W.Stream.answer)
+            (serving (W.answer self.old.service.now) (W.hint self.old.service.now)) octets from v s w') w) result self.old self.new }
     {
         match begin(self.alloc, self.service, self.state, head, from, octets) {
             Ok(packet) => {
@@ -73,8 +77,10 @@ impl<R: Wait, W: SharedService, D: AsyncDgramSock, C: Clock, J: Recorder> DgramL
         ensures next { self.new.state.now.next ≤ self.old.state.now.next + 1 }
         ensures receives { D.failed_receives self.new.sock.now ≡ D.failed_receives self.old.sock.now }
         ensures observed { ObservedSo (loop_observed D.tells C.tells J.tells) (loop_seen D.sock_traffic D.failed_sends C.readings J.noted)
-            (λ u. BeginsExchange (request_answer W.Future.answer W.Stream.answer) (serving (W.answer self.old.service.now) (W.hint self.old.service.now)) octets.now from)
-            (BeginFails (request_answer W.Future.answer W.Stream.answer) (serving (W.answer self.old.service.now) (W.hint self.old.service.now)) octets.now from) result self.old self.new }
+            (λ u. BeginsExchange (request_answer W.Future.answer W.Stream.answer)
+            (serving (W.answer self.old.service.now) (W.hint self.old.service.now)) octets.now from)
+            (BeginFails (request_answer W.Future.answer W.Stream.answer)
+            (serving (W.answer self.old.service.now) (W.hint self.old.service.now)) octets.now from) result self.old self.new }
     {
         let number = self.state.next;
         match note_datagram(self.alloc, self.clock, self.journal, number, octets, from) {
@@ -104,8 +110,10 @@ impl<R: Wait, W: SharedService, D: AsyncDgramSock, C: Clock, J: Recorder> DgramL
         ensures receives { D.failed_receives self.old.sock.now ≤ D.failed_receives self.new.sock.now }
         ensures cause { ReceivedSo result (D.failed_receives self.old.sock.now) (D.failed_receives self.new.sock.now) }
         ensures observed { ObservedSo (loop_observed D.tells C.tells J.tells) (loop_seen D.sock_traffic D.failed_sends C.readings J.noted)
-            (λ outcome. Receives (request_answer W.Future.answer W.Stream.answer) (serving (W.answer self.old.service.now) (W.hint self.old.service.now)) outcome)
-            (λ w s w'. Breaks (request_answer W.Future.answer W.Stream.answer) (serving (W.answer self.old.service.now) (W.hint self.old.service.now)) (s.next + 1) w s true [] w') result self.old self.new }
+            (λ outcome. Receives (request_answer W.Future.answer W.Stream.answer)
+            (serving (W.answer self.old.service.now) (W.hint self.old.service.now)) outcome)
+            (λ w s w'. Breaks (request_answer W.Future.answer W.Stream.answer)
+            (serving (W.answer self.old.service.now) (W.hint self.old.service.now)) (s.next + 1) w s true [] w') result self.old self.new }
     {
         match self.sock.try_recv_buf_from(buf) {
             DgramRecv::Failed => Ok(RecvOutcome::Failed),
@@ -133,7 +141,10 @@ impl<R: Wait, W: SharedService, D: AsyncDgramSock, C: Clock, J: Recorder> DgramL
         requires buffer { length buf.old ≡ 1024 }
         ensures ran_once { RanOnce D.failed_receives D.failed_sends result self.old self.new }
         ensures observed { Observed (loop_observed D.tells C.tells J.tells self.new) (loop_observed D.tells C.tells J.tells self.old)
-            (Rounded (request_answer W.Future.answer W.Stream.answer) (serving (W.answer self.old.service.now) (W.hint self.old.service.now)) true 0 result (loop_seen D.sock_traffic D.failed_sends C.readings J.noted self.old) self.old.state.now (loop_seen D.sock_traffic D.failed_sends C.readings J.noted self.new) self.new.state.now) }
+            (Rounded (request_answer W.Future.answer W.Stream.answer)
+            (serving (W.answer self.old.service.now) (W.hint self.old.service.now)) true 0 result
+            (loop_seen D.sock_traffic D.failed_sends C.readings J.noted self.old) self.old.state.now
+            (loop_seen D.sock_traffic D.failed_sends C.readings J.noted self.new) self.new.state.now) }
     {
         if self.state.heard.closed {
             return Some(DgramEnd::Shutdown);
@@ -179,7 +190,10 @@ impl<R: Wait, W: SharedService, D: AsyncDgramSock, C: Clock, J: Recorder> DgramL
         ensures ran_once { RanOnce D.failed_receives D.failed_sends result self.old self.new }
         ensures taken { TakenSo result count self.new.state.now.next }
         ensures observed { Observed (loop_observed D.tells C.tells J.tells self.new) (loop_observed D.tells C.tells J.tells self.old)
-            (Rounded (request_answer W.Future.answer W.Stream.answer) (serving (W.answer self.old.service.now) (W.hint self.old.service.now)) false count result (loop_seen D.sock_traffic D.failed_sends C.readings J.noted self.old) self.old.state.now (loop_seen D.sock_traffic D.failed_sends C.readings J.noted self.new) self.new.state.now) }
+            (Rounded (request_answer W.Future.answer W.Stream.answer)
+            (serving (W.answer self.old.service.now) (W.hint self.old.service.now)) false count result
+            (loop_seen D.sock_traffic D.failed_sends C.readings J.noted self.old) self.old.state.now
+            (loop_seen D.sock_traffic D.failed_sends C.readings J.noted self.new) self.new.state.now) }
     {
         if is_full(self.state.next, count) {
             return Some(DgramEnd::Counted);
@@ -198,7 +212,10 @@ impl<R: Wait, W: SharedService, D: AsyncDgramSock, C: Clock, J: Recorder> DgramL
         requires within { MayCome count self.old.state.now.next }
         ensures went { WentTo D.failed_receives D.failed_sends result count self.old self.new }
         ensures observed { Observed (loop_observed D.tells C.tells J.tells self.new) (loop_observed D.tells C.tells J.tells self.old)
-            (Stopped (request_answer W.Future.answer W.Stream.answer) (serving (W.answer self.old.service.now) (W.hint self.old.service.now)) result count (loop_seen D.sock_traffic D.failed_sends C.readings J.noted self.old) self.old.state.now (loop_seen D.sock_traffic D.failed_sends C.readings J.noted self.new) self.new.state.now) }
+            (Stopped (request_answer W.Future.answer W.Stream.answer)
+            (serving (W.answer self.old.service.now) (W.hint self.old.service.now)) result count
+            (loop_seen D.sock_traffic D.failed_sends C.readings J.noted self.old) self.old.state.now
+            (loop_seen D.sock_traffic D.failed_sends C.readings J.noted self.new) self.new.state.now) }
     {
         for _ in self.rt.forever() {
             if let Some(end) = self.run_once(buf, count) {

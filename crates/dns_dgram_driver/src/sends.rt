@@ -36,7 +36,8 @@ fn send<R: Wait, D: AsyncDgramSock, C: Clock>(
     ensures sends { D.failed_sends sock.old ≤ D.failed_sends sock.new }
     ensures cause { SendsCause result (D.failed_sends sock.old) (D.failed_sends sock.new) }
     ensures observed { Observed (D.tells sock.new × C.tells clock.new) (D.tells sock.old × C.tells clock.old)
-        (SendsTo result (packet.now ∷ []) since limit (D.sock_traffic sock.old) (D.sock_traffic sock.new) (C.readings clock.old) (C.readings clock.new)) }
+        (SendsTo result (packet.now ∷ []) since limit (D.sock_traffic sock.old) (D.sock_traffic sock.new) (C.readings clock.old)
+        (C.readings clock.new)) }
 {
     for _ in rt.forever() {
         match sock.poll_send_to(packet.octets.as_slice(), packet.addr) {
@@ -72,10 +73,13 @@ pub(crate) fn deliver<R: Wait, D: AsyncDgramSock, C: Clock, J: Recorder>(
     ensures receives { D.failed_receives sock.new ≡ D.failed_receives sock.old }
     ensures sends { D.failed_sends sock.old ≤ D.failed_sends sock.new }
     ensures rose { SendsRose send_failed.old send_failed.new (D.failed_sends sock.old) (D.failed_sends sock.new) }
-    ensures observed { OnOk result (Observed (D.tells sock.new × C.tells clock.new × J.tells journal.new) (D.tells sock.old × C.tells clock.old × J.tells journal.old)
-        (SendsOrFaults head (one_or_none packet) limit (J.noted journal.old) (J.noted journal.new) (D.sock_traffic sock.old) (D.sock_traffic sock.new)
+    ensures observed { OnOk result (Observed (D.tells sock.new × C.tells clock.new × J.tells journal.new)
+        (D.tells sock.old × C.tells clock.old × J.tells journal.old)
+        (SendsOrFaults head (one_or_none packet) limit (J.noted journal.old) (J.noted journal.new) (D.sock_traffic sock.old)
+        (D.sock_traffic sock.new)
         (D.failed_sends sock.old) (D.failed_sends sock.new) (C.readings clock.old) (C.readings clock.new))) }
-    ensures no_memory { OnErr result (Observed (D.tells sock.new × C.tells clock.new × J.tells journal.new) (D.tells sock.old × C.tells clock.old × J.tells journal.old)
+    ensures no_memory { OnErr result (Observed (D.tells sock.new × C.tells clock.new × J.tells journal.new)
+        (D.tells sock.old × C.tells clock.old × J.tells journal.old)
         (Unsent (J.noted journal.old) (J.noted journal.new) (D.sock_traffic sock.old) (D.sock_traffic sock.new))) }
 {
     let Some(packet) = packet else {
@@ -113,7 +117,8 @@ impl<R: Wait, W: SharedService, D: AsyncDgramSock, C: Clock, J: Recorder> DgramL
         ensures polls { OnlyPolls D.failed_receives D.failed_sends self.old self.new }
         ensures rest { self.new.state.now ≡ record self.old.state.now { send_failed = self.new.state.now.send_failed } }
         ensures observed { ObservedSo (loop_observed D.tells C.tells J.tells) (loop_seen D.sock_traffic D.failed_sends C.readings J.noted)
-            (λ u w s w' s'. SendsOrFaults head (one_or_none packet) s.heard.dgram.write_timeout w.noted w'.noted w.sock_traffic w'.sock_traffic w.failed_sends w'.failed_sends w.readings w'.readings)
+            (λ u w s w' s'. SendsOrFaults head (one_or_none packet) s.heard.dgram.write_timeout w.noted w'.noted w.sock_traffic
+            w'.sock_traffic w.failed_sends w'.failed_sends w.readings w'.readings)
             (λ w s w'. Unsent w.noted w'.noted w.sock_traffic w'.sock_traffic) result self.old self.new }
     {
         self.waits = self.waits.anew_where(packet.is_some());

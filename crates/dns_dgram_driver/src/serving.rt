@@ -50,7 +50,10 @@ impl<R: Wait, W: SharedService, D: AsyncDgramSock, C: Clock, J: Recorder> DgramL
         requires within { MayCome count self.old.state.now.next }
         ensures went { WentTo D.failed_receives D.failed_sends result count self.old self.new }
         ensures observed { Observed (loop_observed D.tells C.tells J.tells self.new) (loop_observed D.tells C.tells J.tells self.old)
-            (Ended (request_answer W.Future.answer W.Stream.answer) (serving (W.answer self.old.service.now) (W.hint self.old.service.now)) result count (loop_seen D.sock_traffic D.failed_sends C.readings J.noted self.old) self.old.state.now (loop_seen D.sock_traffic D.failed_sends C.readings J.noted self.new) self.new.state.now) }
+            (Ended (request_answer W.Future.answer W.Stream.answer)
+            (serving (W.answer self.old.service.now) (W.hint self.old.service.now)) result count
+            (loop_seen D.sock_traffic D.failed_sends C.readings J.noted self.old) self.old.state.now
+            (loop_seen D.sock_traffic D.failed_sends C.readings J.noted self.new) self.new.state.now) }
     {
         let mut buf = [0u8; ROOM];
         let end = self.take_all(&mut buf, count);
@@ -80,11 +83,15 @@ fn serve_begun<'x, R: Wait, D: AsyncDgramSock, C: Clock, J: Recorder, W: SharedS
     requires book { state.old.seat.book ≡ book.now }
     requires can_call { W.can_call service.now }
     requires within { MayCome count state.old.next }
-    ensures passes { PassesTo result count state.old state.new (D.failed_sends sock.old) (D.failed_sends sock.new) (D.failed_receives sock.old) (D.failed_receives sock.new) }
-    ensures observed { Observed (D.tells sock.new × C.tells clock.new × J.tells journal.new) (D.tells sock.old × C.tells clock.old × J.tells journal.old)
+    ensures passes { PassesTo result count state.old state.new (D.failed_sends sock.old) (D.failed_sends sock.new)
+        (D.failed_receives sock.old) (D.failed_receives sock.new) }
+    ensures observed { Observed (D.tells sock.new × C.tells clock.new × J.tells journal.new)
+        (D.tells sock.old × C.tells clock.old × J.tells journal.old)
         (Ended (request_answer W.Future.answer W.Stream.answer) (serving (W.answer service.now) (W.hint service.now)) result count
-        (world (J.noted journal.old) (D.sock_traffic sock.old) (D.failed_sends sock.old) (C.readings clock.old) state.old.seat.known) state.old
-        (world (J.noted journal.new) (D.sock_traffic sock.new) (D.failed_sends sock.new) (C.readings clock.new) state.new.seat.known) state.new) }
+        (world (J.noted journal.old) (D.sock_traffic sock.old) (D.failed_sends sock.old)
+        (C.readings clock.old) state.old.seat.known) state.old
+        (world (J.noted journal.new) (D.sock_traffic sock.new) (D.failed_sends sock.new)
+        (C.readings clock.new) state.new.seat.known) state.new) }
 {
     let mut dgram_loop = DgramLoop {
         rt,
@@ -121,7 +128,8 @@ pub fn serve_datagrams_with_sends<
     requires book { seat.book ≡ book.now }
     requires can_call { W.can_call service.now }
     // Where socket, clock and recorder tell.
-    ensures observed { Observed (D.tells sock.new × C.tells clock.new × J.tells journal.new) (D.tells sock.old × C.tells clock.old × J.tells journal.old)
+    ensures observed { Observed (D.tells sock.new × C.tells clock.new × J.tells journal.new)
+        (D.tells sock.old × C.tells clock.old × J.tells journal.old)
         (ServedTo (serving (W.answer service.now) (W.hint service.now)) result.1 count
         (world (J.noted journal.old) (D.sock_traffic sock.old) (D.failed_sends sock.old) (C.readings clock.old) seat.known)
         (world (J.noted journal.new) (D.sock_traffic sock.new) (D.failed_sends sock.new) (C.readings clock.new) result.0.known)) }
@@ -167,7 +175,8 @@ pub fn serve_datagrams<R: Wait, D: AsyncDgramSock, C: Clock, J: Recorder, W: Sha
     requires book { seat.book ≡ book.now }
     requires can_call { W.can_call service.now }
     // Where socket, clock and recorder tell.
-    ensures observed { Observed (D.tells sock.new × C.tells clock.new × J.tells journal.new) (D.tells sock.old × C.tells clock.old × J.tells journal.old)
+    ensures observed { Observed (D.tells sock.new × C.tells clock.new × J.tells journal.new)
+        (D.tells sock.old × C.tells clock.old × J.tells journal.old)
         (ServedTo (serving (W.answer service.now) (W.hint service.now)) result.1 count
         (world (J.noted journal.old) (D.sock_traffic sock.old) (D.failed_sends sock.old) (C.readings clock.old) seat.known)
         (world (J.noted journal.new) (D.sock_traffic sock.new) (D.failed_sends sock.new) (C.readings clock.new) result.0.known)) }

@@ -86,11 +86,24 @@ pub struct ConnectionConfig {
 impl Model for ConnectionConfig {
     ghost Value = { Connection };
 
-    ghost view = { λ c. record { idle_timeout = c.idle_timeout; response_write_timeout = c.response_write_timeout; max_queued_responses = c.max_queued_responses; response_budget = c.response_budget; budget_window = c.budget_window } };
+    ghost view = { λ c. record {
+      idle_timeout = c.idle_timeout;
+      response_write_timeout = c.response_write_timeout;
+      max_queued_responses = c.max_queued_responses;
+      response_budget = c.response_budget;
+      budget_window = c.budget_window;
+    } };
 
-    ghost invariant = { λ c. IsBetween 200 2592000000 c.idle_timeout × IsBetween 1 3600000 c.response_write_timeout × IsBetween 1 1024 c.max_queued_responses × IsBudget c.response_budget × IsBetween 1 3600000 c.budget_window };
+    ghost invariant = { λ c. IsBetween 200 2592000000 c.idle_timeout × IsBetween 1 3600000 c.response_write_timeout
+        × IsBetween 1 1024 c.max_queued_responses × IsBudget c.response_budget × IsBetween 1 3600000 c.budget_window };
 
-    ghost inverse = { λ c. record { idle_timeout = c.idle_timeout; response_write_timeout = c.response_write_timeout; max_queued_responses = c.max_queued_responses; response_budget = c.response_budget; budget_window = c.budget_window } };
+    ghost inverse = { λ c. record {
+      idle_timeout = c.idle_timeout;
+      response_write_timeout = c.response_write_timeout;
+      max_queued_responses = c.max_queued_responses;
+      response_budget = c.response_budget;
+      budget_window = c.budget_window;
+    } };
 }
 
 impl ConnectionConfig {
@@ -207,11 +220,19 @@ pub struct StreamConfig {
 impl Model for StreamConfig {
     ghost Value = { Stream };
 
-    ghost view = { λ s. record { accept_connections_at_max = s.accept_connections_at_max; max_concurrent_connections = s.max_concurrent_connections; connection_config = s.connection_config } };
+    ghost view = { λ s. record {
+      accept_connections_at_max = s.accept_connections_at_max;
+      max_concurrent_connections = s.max_concurrent_connections;
+      connection_config = s.connection_config;
+    } };
 
     ghost invariant = { λ s. IsBetween 1 100000 s.max_concurrent_connections × IsConnection s.connection_config };
 
-    ghost inverse = { λ s. record { accept_connections_at_max = s.accept_connections_at_max; max_concurrent_connections = s.max_concurrent_connections; connection_config = s.connection_config } };
+    ghost inverse = { λ s. record {
+      accept_connections_at_max = s.accept_connections_at_max;
+      max_concurrent_connections = s.max_concurrent_connections;
+      connection_config = s.connection_config;
+    } };
 }
 
 impl StreamConfig {

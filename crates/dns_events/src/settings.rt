@@ -26,7 +26,14 @@ pub struct Settings {
 impl Settings {
     /// Strict, with EDNS and without cookies, nobody denied, and the default configurations.
     pub fn new(alloc: Global) -> Settings
-        ensures { result ≡ record { strict = true; edns = true; cookies = None; denied = []; dgram = default_dgram; stream = default_stream } }
+        ensures { result ≡ record {
+          strict = true;
+          edns = true;
+          cookies = None;
+          denied = [];
+          dgram = default_dgram;
+          stream = default_stream;
+        } }
     {
         Settings {
             strict: true,

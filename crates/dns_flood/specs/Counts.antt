@@ -57,7 +57,8 @@ pub record IsAtMost (most : ℕ) (c : Counts) : Type 0 where
 
 -- whatever the settings and the events before, of which there are fewer than versions, and what was sent for them was counted:
 -- so is what is sent with e behind them, which was served too
-abbrev pub CountsEvent : {W R F : Type 0} → (PolledRequest F R → ℕ → Answer) → Serving → Server W R F → Server W R F → Event → Counts → Counts → Type 0
+abbrev pub CountsEvent : {W R F : Type 0} → (PolledRequest F R → ℕ → Answer) → Serving → Server W R F → Server W R F → Event
+    → Counts → Counts → Type 0
 CountsEvent answer answers old new e counts more = (settings : Settings) (q : List Event) → length q < last_version
     → Serves answer answers settings q old → counts ≡ output_counts (out answers settings q)
     → Serves answer answers settings (q ++ e ∷ []) new × (more ≡ output_counts (out answers settings (q ++ e ∷ [])))

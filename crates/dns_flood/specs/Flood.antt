@@ -70,4 +70,5 @@ flood_rule = record { name = None; answers = Pend ∷ Reply (Rcode 0) ∷ Reply 
 
 -- a flood is a script of these two lines and of the events
 abbrev pub flood_plan : ℕ → ℕ → Plan Event
-flood_plan seed count = record empty_plan { said = record nothing_said { stream = Some flood_stream }; service = Rules (flood_rule ∷ []); events = flood_events seed count }
+flood_plan seed count = record empty_plan
+    { said = record nothing_said { stream = Some flood_stream }; service = Rules (flood_rule ∷ []); events = flood_events seed count }

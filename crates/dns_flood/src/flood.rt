@@ -82,7 +82,8 @@ fn count_event<W: SharedService>(
 ) -> Result<(), OutOfMemory>
     requires can_call { W.can_call service.now }
     requires room { IsAtMost (2 ^ 127) counts.old }
-    ensures counted { OnOk result (CountsEvent (request_answer W.Future.answer W.Stream.answer) (serving (W.answer service.now) (W.hint service.now)) server.old server.new event.now counts.old counts.new) }
+    ensures counted { OnOk result (CountsEvent (request_answer W.Future.answer W.Stream.answer)
+        (serving (W.answer service.now) (W.hint service.now)) server.old server.new event.now counts.old counts.new) }
     ensures few { OnOk result ((most : ℕ) → IsAtMost most counts.old → IsAtMost (most + 2 ^ 64) counts.new) }
 {
     let mut outputs = Vec::new(alloc);
@@ -103,7 +104,9 @@ fn count_next<W: SharedService>(
     requires can_call { W.can_call service.now }
     requires room { IsAtMost (2 ^ 127) counts.old }
     ensures number { OnOk result (number.new ≡ next_number number.old) }
-    ensures counted { OnOk result (CountsEvent (request_answer W.Future.answer W.Stream.answer) (serving (W.answer service.now) (W.hint service.now)) server.old server.new (flood_event place (drawn number.new)) counts.old counts.new) }
+    ensures counted { OnOk result (CountsEvent (request_answer W.Future.answer W.Stream.answer)
+        (serving (W.answer service.now) (W.hint service.now)) server.old server.new
+        (flood_event place (drawn number.new)) counts.old counts.new) }
     ensures few { OnOk result ((most : ℕ) → IsAtMost most counts.old → IsAtMost (most + 2 ^ 64) counts.new) }
 {
     let event = next_event(alloc, number, place)?;
@@ -120,7 +123,8 @@ fn count_each<W: SharedService>(
 ) -> Result<Counts, OutOfMemory>
     requires { W.can_call service.now }
     ensures { IfOk result (λ c. (settings : Settings)
-        → Serves (request_answer W.Future.answer W.Stream.answer) (serving (W.answer service.now) (W.hint service.now)) settings [] server.old
+        → Serves (request_answer W.Future.answer W.Stream.answer)
+        (serving (W.answer service.now) (W.hint service.now)) settings [] server.old
         → c ≡ output_counts (out (serving (W.answer service.now) (W.hint service.now)) settings (flood_events seed count))) }
 {
     let mut counts = Counts::new();
@@ -147,7 +151,8 @@ fn count_events<W: SharedService>(
     count: u32,
 ) -> Result<Counts, OutOfMemory>
     requires { W.can_call service }
-    ensures { IfOk result (λ c. c ≡ output_counts (out (serving (W.answer service) (W.hint service)) settings.now (flood_events seed count))) }
+    ensures { IfOk result (λ c. c ≡ output_counts
+        (out (serving (W.answer service) (W.hint service)) settings.now (flood_events seed count))) }
 {
     let mut server = Server::new(alloc, settings);
     count_each(alloc, &mut server, &service, seed, count)
@@ -163,7 +168,9 @@ fn count_served<S: Service<()>, N: Notifiable>(
     count: u32,
 ) -> Result<Counts, OutOfMemory>
     requires { S.can_call service }
-    ensures { IfOk result (λ c. c ≡ output_counts (out (serving (replies settings.now (S.answer service) (verdict_on (N.verdict target))) (hint_left settings.now)) settings.now (flood_events seed count))) }
+    ensures { IfOk result (λ c. c ≡ output_counts
+        (out (serving (replies settings.now (S.answer service) (verdict_on (N.verdict target))) (hint_left settings.now))
+        settings.now (flood_events seed count))) }
 {
     match layered(alloc, settings, service, target) {
         Ok(service) => count_events(alloc, settings, service, seed, count),
@@ -198,7 +205,8 @@ pub fn write_flood<W: Sink>(
     seed: u64,
     count: u32,
 ) -> Result<(), WriteError>
-    ensures observed { Observed (W.tells sink.new) (W.tells sink.old) (Wrote result (flood_text seed count) (W.taken sink.old) (W.taken sink.new)) }
+    ensures observed { Observed (W.tells sink.new) (W.tells sink.old)
+        (Wrote result (flood_text seed count) (W.taken sink.old) (W.taken sink.new)) }
     ensures cause { WroteFaults result (W.faults sink.old) (W.faults sink.new) }
 {
     let text = flood_line(alloc, seed, count)?;

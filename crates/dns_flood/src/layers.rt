@@ -18,7 +18,8 @@ pub fn layered<S: Service<()>, N: Notifiable>(
     target: N,
 ) -> Result<WithoutMeta<Wrapped<S, N>>, OutOfMemory>
     ensures can_call { IfOk result (λ p. S.can_call service → ⟦<Wrapped<S, N> as Service<()>>⟧.can_call p.service) }
-    ensures replies { IfOk result (λ p. ⟦<Wrapped<S, N> as Service<()>>⟧.answer p.service ≡ replies settings.now (S.answer service) (verdict_on (N.verdict target))) }
+    ensures replies { IfOk result (λ p. ⟦<Wrapped<S, N> as Service<()>>⟧.answer p.service
+        ≡ replies settings.now (S.answer service) (verdict_on (N.verdict target))) }
     ensures hint { IfOk result (λ p. ⟦<Wrapped<S, N> as Service<()>>⟧.hint p.service ≡ hint_left settings.now) }
 {
     match wrap(alloc, settings, service, target) {

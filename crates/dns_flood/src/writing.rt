@@ -47,7 +47,8 @@ const BATCH: usize = 65_536;
 /// Writes the lines that are kept back, once they are many. After an error a front of them was written.
 #[tactic(auto, using(crate::proofs::Batches::kept, crate::proofs::Batches::poured))]
 pub fn pour<W: Sink>(sink: &mut W, text: &mut Vec<u8>) -> Result<(), WriteFault>
-    ensures observed { Observed (W.tells sink.new) (W.tells sink.old) (Pours result text.old.items text.new.items (W.taken sink.old) (W.taken sink.new)) }
+    ensures observed { Observed (W.tells sink.new) (W.tells sink.old)
+        (Pours result text.old.items text.new.items (W.taken sink.old) (W.taken sink.new)) }
     ensures later { W.faults sink.old ≤ W.faults sink.new }
     ensures cause { WroteAllCause result (W.faults sink.old) (W.faults sink.new) }
     ensures err { OnErr result (text.new.items ≡ text.old.items) }
@@ -81,7 +82,8 @@ fn write_line<W: Sink>(
     text: &mut Vec<u8>,
     output: &Output,
 ) -> Result<(), WriteError>
-    ensures observed { Observed (W.tells sink.new) (W.tells sink.old) (Pours result (text.old.items ++ line_of output.now) text.new.items (W.taken sink.old) (W.taken sink.new)) }
+    ensures observed { Observed (W.tells sink.new) (W.tells sink.old)
+        (Pours result (text.old.items ++ line_of output.now) text.new.items (W.taken sink.old) (W.taken sink.new)) }
     ensures later { W.faults sink.old ≤ W.faults sink.new }
     ensures cause { WroteFaults result (W.faults sink.old) (W.faults sink.new) }
 {
@@ -99,7 +101,8 @@ fn write_lines<W: Sink>(
     outputs: &[Output],
 ) -> Result<(), WriteError>
     requires { text.old.items ≡ [] }
-    ensures observed { Observed (W.tells sink.new) (W.tells sink.old) (Pours result (lines_of outputs.now) text.new.items (W.taken sink.old) (W.taken sink.new)) }
+    ensures observed { Observed (W.tells sink.new) (W.tells sink.old)
+        (Pours result (lines_of outputs.now) text.new.items (W.taken sink.old) (W.taken sink.new)) }
     ensures later { W.faults sink.old ≤ W.faults sink.new }
     ensures cause { WroteFaults result (W.faults sink.old) (W.faults sink.new) }
 {
@@ -116,7 +119,8 @@ pub fn write_outputs<W: Sink>(
     sink: &mut W,
     outputs: &[Output],
 ) -> Result<(), WriteError>
-    ensures observed { Observed (W.tells sink.new) (W.tells sink.old) (Wrote result (lines_of outputs.now) (W.taken sink.old) (W.taken sink.new)) }
+    ensures observed { Observed (W.tells sink.new) (W.tells sink.old)
+        (Wrote result (lines_of outputs.now) (W.taken sink.old) (W.taken sink.new)) }
     ensures later { W.faults sink.old ≤ W.faults sink.new }
     ensures cause { WroteFaults result (W.faults sink.old) (W.faults sink.new) }
 {
@@ -133,7 +137,8 @@ pub fn write_refusal<W: Sink>(
     number: u64,
     reason: Reason,
 ) -> Result<(), WriteError>
-    ensures observed { Observed (W.tells sink.new) (W.tells sink.old) (Wrote result (refused_line number reason) (W.taken sink.old) (W.taken sink.new)) }
+    ensures observed { Observed (W.tells sink.new) (W.tells sink.old)
+        (Wrote result (refused_line number reason) (W.taken sink.old) (W.taken sink.new)) }
     ensures later { W.faults sink.old ≤ W.faults sink.new }
     ensures cause { WroteFaults result (W.faults sink.old) (W.faults sink.new) }
 {

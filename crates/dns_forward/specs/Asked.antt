@@ -66,7 +66,8 @@ arrival_outcome q o = if matches q.message q.id o then Some (with_id (header_of 
 
 -- a due tick sends again while fewer sends than tries were made: the first, and one at each tick that was due
 abbrev pub tick_outcome : Inquiry → List ℕ → ℕ → Ticked
-tick_outcome q ats at = if is_due q.timeout (last_from q.at ats) at then (if nat_lt (suc (length ats)) q.tries then Send else GaveUp) else Nothing
+tick_outcome q ats at = if is_due q.timeout (last_from q.at ats) at
+    then (if nat_lt (suc (length ats)) q.tries then Send else GaveUp) else Nothing
 
 -- what comes of an event behind others
 abbrev pub outcome : Inquiry → List AskingEvent → AskingEvent → AskingOutcome
@@ -83,7 +84,8 @@ abbrev pub asked_by : Inquiry → List AskingEvent → List AskingOutcome
 asked_by q es = outcomes q [] es
 
 abbrev pub asked : List ℕ → ℕ → ℕ → ℕ → ℕ → List AskingEvent → List AskingOutcome
-asked message id tries timeout at events = asked_by (record { message = message; id = id; tries = tries; timeout = timeout; at = at }) events
+asked message id tries timeout at events
+    = asked_by (record { message = message; id = id; tries = tries; timeout = timeout; at = at }) events
 
 -- what outcomes lead to: the answer, Timeout where it was given up, and else nothing yet
 abbrev pub led_to : List AskingOutcome → SentAnswer

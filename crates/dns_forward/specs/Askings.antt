@@ -29,4 +29,5 @@ pub record HasHeard (q : Inquiry) (es : List AskingEvent) (a : Asking) : Type 0 
 
 -- an asking hears one event more: this is its outcome, the last of those of all its events
 abbrev pub Hears : Asking → Asking → AskingEvent → AskingOutcome → Type 0
-Hears old new e o = (q : Inquiry) (es : List AskingEvent) → HasHeard q es old → HasHeard q (es ++ e ∷ []) new × (asked_by q (es ++ e ∷ []) ≡ asked_by q es ++ o ∷ [])
+Hears old new e o = (q : Inquiry) (es : List AskingEvent) → HasHeard q es old
+    → HasHeard q (es ++ e ∷ []) new × (asked_by q (es ++ e ∷ []) ≡ asked_by q es ++ o ∷ [])

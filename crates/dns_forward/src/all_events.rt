@@ -20,7 +20,8 @@ pub fn ask_all(
     asking: Asking,
     events: &[AskingEvent],
 ) -> Result<Vec<AskingOutcome>, OutOfMemory>
-    ensures { IfOk result (λ os. (q : Inquiry) (es : List TheEvent) → HasHeard q es asking → asked_by q (es ++ events.now) ≡ asked_by q es ++ os.items) }
+    ensures { IfOk result (λ os. (q : Inquiry) (es : List TheEvent) → HasHeard q es asking
+        → asked_by q (es ++ events.now) ≡ asked_by q es ++ os.items) }
 {
     let mut asking = asking;
     all_heard(alloc, &mut asking, events)
@@ -32,7 +33,8 @@ fn all_heard(
     asking: &mut Asking,
     events: &[AskingEvent],
 ) -> Result<Vec<AskingOutcome>, OutOfMemory>
-    ensures { IfOk result (λ os. (q : Inquiry) (es : List TheEvent) → HasHeard q es asking.old → asked_by q (es ++ events.now) ≡ asked_by q es ++ os.items) }
+    ensures { IfOk result (λ os. (q : Inquiry) (es : List TheEvent) → HasHeard q es asking.old
+        → asked_by q (es ++ events.now) ≡ asked_by q es ++ os.items) }
 {
     let mut outcomes = Vec::with_capacity(alloc, events.len())?;
     hear_all(alloc, asking, events, &mut outcomes)?;
@@ -47,7 +49,8 @@ fn hear_all(
     outcomes: &mut Vec<AskingOutcome>,
 ) -> Result<(), OutOfMemory>
     requires { outcomes.old.items ≡ [] }
-    ensures { OnOk result ((q : Inquiry) (es : List TheEvent) → HasHeard q es asking.old → asked_by q (es ++ events.now) ≡ asked_by q es ++ outcomes.new.items) }
+    ensures { OnOk result ((q : Inquiry) (es : List TheEvent) → HasHeard q es asking.old
+        → asked_by q (es ++ events.now) ≡ asked_by q es ++ outcomes.new.items) }
 {
     'events: for event in events {
         hear_next(alloc, asking, event, outcomes)?;
@@ -62,7 +65,8 @@ fn hear_next(
     event: &AskingEvent,
     outcomes: &mut Vec<AskingOutcome>,
 ) -> Result<(), OutOfMemory>
-    ensures { OnOk result ((q : Inquiry) (es : List TheEvent) (before : List TheOutcome) → HasHeard q es asking.old → asked_by q es ≡ before ++ outcomes.old.items
+    ensures { OnOk result ((q : Inquiry) (es : List TheEvent) (before : List TheOutcome) → HasHeard q es asking.old
+        → asked_by q es ≡ before ++ outcomes.old.items
         → HasHeard q (es ++ event.now ∷ []) asking.new × (asked_by q (es ++ event.now ∷ []) ≡ before ++ outcomes.new.items)) }
 {
     let outcome = asking.apply_event(alloc, event)?;

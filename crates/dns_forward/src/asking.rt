@@ -45,7 +45,13 @@ impl Asking {
         timeout: u64,
         at: u64,
     ) -> Result<Asking, OutOfMemory>
-        ensures { IfOk result (HasHeard (record { message = message; id = id; tries = in_range 1 8 tries; timeout = max timeout 1; at = at }) []) }
+        ensures { IfOk result (HasHeard (record {
+          message = message;
+          id = id;
+          tries = in_range 1 8 tries;
+          timeout = max timeout 1;
+          at = at;
+        }) []) }
     {
         Asking::of(alloc, message, id, tries.clamp(1, 8), timeout.max(1), at)
     }

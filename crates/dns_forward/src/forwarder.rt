@@ -77,7 +77,8 @@ impl Forwarding<ClientTransportToSingleService<BoxClientTransport>> {
         upstream: Box<dyn SendRequest + Send + Sync>,
     ) -> Result<(), OutOfMemory>
         ensures ok { (us : List (Route Upstream)) → Forwards ⟦<Relay as SingleService>⟧.answer us self.old
-            → OnOk result (Forwards ⟦<Relay as SingleService>⟧.answer (us ++ (name, (SendRequest-box upstream).answer upstream.value) ∷ []) self.new) }
+            → OnOk result (Forwards ⟦<Relay as SingleService>⟧.answer
+            (us ++ (name, (SendRequest-box upstream).answer upstream.value) ∷ []) self.new) }
         ensures err { OnErr result (self.new ≡ self.old) }
     {
         let relay = ClientTransportToSingleService::new(BoxClientTransport { conn: upstream });

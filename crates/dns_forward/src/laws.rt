@@ -27,5 +27,6 @@ pub fn forwarded_replies_respond()
 /// Services of one type stand for upstreams where they answer under their names as these are relayed: what a forwarder of them
 /// answers is what is forwarded to these.
 pub fn relaying_services_forward<S: SingleService>()
-    ensures { (us : List (Route Upstream)) (rs : List (Route S)) → answered_under S.answer rs ≡ answered_under relayed us → Forwards S.answer us rs }
+    ensures { (us : List (Route Upstream)) (rs : List (Route S)) → answered_under S.answer rs ≡ answered_under relayed us
+        → Forwards S.answer us rs }
 {}

@@ -75,27 +75,40 @@ pub record HostWorld : Type 0 where
 
 abbrev pub host_world : AcceptTraffic → List SocketAddr → List Event → SockTraffic → List ClockReading → ℕ → ℕ → ℕ → ℕ → HostWorld
 host_world accept_traffic given noted sock_traffic readings failed_accepts refused_starts failed_receives failed_sends =
-    record { accept_traffic = accept_traffic; given = given; noted = noted; sock_traffic = sock_traffic; readings = readings; failed_accepts = failed_accepts; refused_starts = refused_starts; failed_receives = failed_receives; failed_sends = failed_sends }
+    record {
+      accept_traffic = accept_traffic;
+      given = given;
+      noted = noted;
+      sock_traffic = sock_traffic;
+      readings = readings;
+      failed_accepts = failed_accepts;
+      refused_starts = refused_starts;
+      failed_receives = failed_receives;
+      failed_sends = failed_sends;
+    }
 
 -- what the serving of datagrams tells
 abbrev pub dgram_world : HostWorld → Known → World
 dgram_world h k = world h.noted h.sock_traffic h.failed_sends h.readings k
 
 -- accepts, and then perhaps a shutdown
-pub record AcceptsBeside (end : AcceptEnd) (count : ℕ) (now before : Type 0) (k k' : Known) (a b : AcceptTraffic) (given given' : List SocketAddr) (f f' : ℕ) : Type 0 where
+pub record AcceptsBeside (end : AcceptEnd) (count : ℕ) (now before : Type 0) (k k' : Known) (a b : AcceptTraffic)
+    (given given' : List SocketAddr) (f f' : ℕ) : Type 0 where
   pub between : Known
   pub accepts : AcceptsTo end count now before k between a b given given' f f'
   pub shut : AcceptsShut end between k'
 
 -- datagrams, and then perhaps a shutdown
-pub record DgramsBeside (answers : Serving) (end : DgramEnd) (count : ℕ) (now before : Type 0) (k k' : Known) (start stop : Known → World) : Type 0 where
+pub record DgramsBeside (answers : Serving) (end : DgramEnd) (count : ℕ) (now before : Type 0) (k k' : Known)
+    (start stop : Known → World) : Type 0 where
   pub between : Known
   pub looks : LooksBy end k between
   pub served : Observed now before (ServedTo answers end count (start k) (stop between))
   pub shut : DgramsShut end between k'
 
 -- what accepts beside datagrams did to the seat, the accept object and the spawner, which are read so
-pub record AcceptsWent {S P : Type 0} (tells : S → Type 0) (accept_traffic : S → AcceptTraffic) (failed : S → ℕ) (works : P → Type 0) (given : P → List SocketAddr) (refused : P → ℕ)
+pub record AcceptsWent {S P : Type 0} (tells : S → Type 0) (accept_traffic : S → AcceptTraffic) (failed : S → ℕ)
+    (works : P → Type 0) (given : P → List SocketAddr) (refused : P → ℕ)
     (end : AcceptEnd) (risen : Bool) (count : ℕ) (k k' : Known) (a b : S) (p q : P) : Type 0 where
   pub between : Known
   pub ran : AcceptsRan tells accept_traffic failed works given refused end risen count k between a b p q
@@ -103,8 +116,10 @@ pub record AcceptsWent {S P : Type 0} (tells : S → Type 0) (accept_traffic : S
 
 -- What datagrams beside accepts did to the seat, the socket, the clock and the journal, which are read so, and whether a send failed.
 -- Neither count fell.
-pub record DgramsWent {D C J : Type 0} (tells : D → Type 0) (sock_traffic : D → SockTraffic) (failed_receives failed_sends : D → ℕ) (ticks : C → Type 0) (readings : C → List ClockReading)
-    (notes : J → Type 0) (noted : J → List Event) (answers : Serving) (end : DgramEnd) (send_failed : Bool) (count : ℕ) (k k' : Known) (d d' : D) (c c' : C) (j j' : J) : Type 0 where
+pub record DgramsWent {D C J : Type 0} (tells : D → Type 0) (sock_traffic : D → SockTraffic) (failed_receives failed_sends : D → ℕ)
+    (ticks : C → Type 0) (readings : C → List ClockReading)
+    (notes : J → Type 0) (noted : J → List Event) (answers : Serving) (end : DgramEnd) (send_failed : Bool) (count : ℕ)
+    (k k' : Known) (d d' : D) (c c' : C) (j j' : J) : Type 0 where
   pub dgrams : DgramsBeside answers end count (tells d' × ticks c' × notes j') (tells d × ticks c × notes j) k k'
       (world (noted j) (sock_traffic d) (failed_sends d) (readings c)) (world (noted j') (sock_traffic d') (failed_sends d') (readings c'))
   pub receives : ReceivesBy end (failed_receives d) (failed_receives d')
@@ -113,7 +128,8 @@ pub record DgramsWent {D C J : Type 0} (tells : D → Type 0) (sock_traffic : D 
   pub sends_later : failed_sends d ≤ failed_sends d'
 
 -- Accepts from the first half of a seat beside datagrams from the second. Then both halves are joined and the book is shut down.
-pub record BothServed (answers : Serving) (end : HostEnd) (count : ℕ) (accept_now accept_before sock_now sock_before : Type 0) (k k' : Known) (h h' : HostWorld) : Type 0 where
+pub record BothServed (answers : Serving) (end : HostEnd) (count : ℕ) (accept_now accept_before sock_now sock_before : Type 0)
+    (k k' : Known) (h h' : HostWorld) : Type 0 where
   pub accepts_end : AcceptEnd
   pub dgrams_end : DgramEnd
   pub risen : Bool
@@ -125,7 +141,8 @@ pub record BothServed (answers : Serving) (end : HostEnd) (count : ℕ) (accept_
   pub first : Known
   pub second : Known
   pub joined : Known
-  pub accepts : AcceptsBeside accepts_end count accept_now accept_before (first_half k) first h.accept_traffic h'.accept_traffic h.given h'.given h.failed_accepts h'.failed_accepts
+  pub accepts : AcceptsBeside accepts_end count accept_now accept_before
+      (first_half k) first h.accept_traffic h'.accept_traffic h.given h'.given h.failed_accepts h'.failed_accepts
   pub dgrams : DgramsBeside answers dgrams_end count sock_now sock_before (second_half k) second (dgram_world h) (dgram_world h')
   pub join : Joined first second joined
   pub shut : ShutDown joined k'
@@ -136,9 +153,11 @@ pub record NeitherBegan (end : HostEnd) (k k' : Known) : Type 0 where
   pub shut : ShutDown k k'
 
 -- what is seen of a host whose objects are read so
-abbrev pub host_seen : {A D C P J : Type 0} → (A → AcceptTraffic) → (P → List SocketAddr) → (J → List Event) → (D → SockTraffic) → (C → List ClockReading) → (A → ℕ) → (P → ℕ) → (D → ℕ) → (D → ℕ) → Host A D C P J → HostWorld
+abbrev pub host_seen : {A D C P J : Type 0} → (A → AcceptTraffic) → (P → List SocketAddr) → (J → List Event) → (D → SockTraffic)
+    → (C → List ClockReading) → (A → ℕ) → (P → ℕ) → (D → ℕ) → (D → ℕ) → Host A D C P J → HostWorld
 host_seen accept_traffic given noted sock_traffic readings failed refused failed_receives failed_sends h =
-    host_world (accept_traffic h.accept) (given h.spawner) (noted h.journal) (sock_traffic h.sock) (readings h.clock) (failed h.accept) (refused h.spawner) (failed_receives h.sock) (failed_sends h.sock)
+    host_world (accept_traffic h.accept) (given h.spawner) (noted h.journal) (sock_traffic h.sock) (readings h.clock)
+    (failed h.accept) (refused h.spawner) (failed_receives h.sock) (failed_sends h.sock)
 
 -- that a host's accept object and spawner tell, and that its socket, clock and journal do
 abbrev pub accept_observed : {A D C P J : Type 0} → (A → Type 0) → (P → Type 0) → Host A D C P J → Type 0
@@ -148,8 +167,10 @@ abbrev pub sock_observed : {A D C P J : Type 0} → (D → Type 0) → (C → Ty
 sock_observed tells ticks notes h = tells h.sock × ticks h.clock × notes h.journal
 
 -- how a host was served, of which this is seen, and whose two sides tell so; no count of faults fell
-pub record HostServed {H : Type 0} (seen : H → HostWorld) (accept_traffic sock_traffic : H → Type 0) (answers : Serving) (end : HostEnd) (count : ℕ) (k k' : Known) (h h' : H) : Type 0 where
-  pub observed : BothServed answers end count (accept_traffic h') (accept_traffic h) (sock_traffic h') (sock_traffic h) k k' (seen h) (seen h') ⊎ (NeitherBegan end k k' × (h' ≡ h))
+pub record HostServed {H : Type 0} (seen : H → HostWorld) (accept_traffic sock_traffic : H → Type 0) (answers : Serving)
+    (end : HostEnd) (count : ℕ) (k k' : Known) (h h' : H) : Type 0 where
+  pub observed : BothServed answers end count (accept_traffic h') (accept_traffic h) (sock_traffic h') (sock_traffic h) k k'
+      (seen h) (seen h') ⊎ (NeitherBegan end k k' × (h' ≡ h))
   pub fault : HostRose end (seen h).failed_accepts (seen h').failed_accepts (seen h).refused_starts (seen h').refused_starts
       (seen h).failed_receives (seen h').failed_receives (seen h).failed_sends (seen h').failed_sends
   pub accepts_later : (seen h).failed_accepts ≤ (seen h').failed_accepts

@@ -82,14 +82,18 @@ where
         W::Future: Send,
         W::Stream: Send,
         P: Spawner<ConnectionWork<A::Link, C, Silent, W>>,
-        requires halves { (halves.0.book ≡ arc_value accept_context.now.serve_context.book.now) × (halves.1.book ≡ arc_value accept_context.now.serve_context.book.now) }
+        requires halves { (halves.0.book ≡ arc_value accept_context.now.serve_context.book.now)
+            × (halves.1.book ≡ arc_value accept_context.now.serve_context.book.now) }
         requires can_call { W.can_call (arc_value accept_context.now.serve_context.service.now) }
         ensures dgrams { DgramsWent D.tells D.sock_traffic D.failed_receives D.failed_sends C.tells C.readings J.tells J.noted
-            (serving (W.answer (arc_value accept_context.now.serve_context.service.now)) (W.hint (arc_value accept_context.now.serve_context.service.now))) result.0.1 result.0.2 count halves.1.known result.0.0.known
+            (serving (W.answer (arc_value accept_context.now.serve_context.service.now))
+            (W.hint (arc_value accept_context.now.serve_context.service.now))) result.0.1 result.0.2 count halves.1.known result.0.0.known
             self.old.sock self.new.sock self.old.clock self.new.clock self.old.journal self.new.journal }
-        ensures accepts { AcceptsWent A.tells A.accept_traffic A.faults P.tells P.given P.faults result.1.1 result.1.2 count halves.0.known result.1.0.known
+        ensures accepts { AcceptsWent A.tells A.accept_traffic A.faults P.tells P.given P.faults result.1.1 result.1.2 count
+            halves.0.known result.1.0.known
             self.old.accept self.new.accept self.old.spawner self.new.spawner }
-        ensures seats { (result.0.0.book ≡ arc_value accept_context.now.serve_context.book.now) × (result.1.0.book ≡ arc_value accept_context.now.serve_context.book.now) }
+        ensures seats { (result.0.0.book ≡ arc_value accept_context.now.serve_context.book.now)
+            × (result.1.0.book ≡ arc_value accept_context.now.serve_context.book.now) }
     {
         let Host {
             accept,
@@ -127,9 +131,11 @@ where
         P: Spawner<ConnectionWork<A::Link, C, Silent, W>>,
         requires book { seat.book ≡ arc_value accept_context.now.serve_context.book.now }
         requires can_call { W.can_call (arc_value accept_context.now.serve_context.service.now) }
-        ensures served { HostServed (host_seen A.accept_traffic P.given J.noted D.sock_traffic C.readings A.faults P.faults D.failed_receives D.failed_sends)
+        ensures served { HostServed (host_seen A.accept_traffic P.given J.noted D.sock_traffic C.readings A.faults P.faults
+            D.failed_receives D.failed_sends)
             (accept_observed A.tells P.tells) (sock_observed D.tells C.tells J.tells)
-            (serving (W.answer (arc_value accept_context.now.serve_context.service.now)) (W.hint (arc_value accept_context.now.serve_context.service.now))) result.1 count seat.known result.0.known self.old self.new }
+            (serving (W.answer (arc_value accept_context.now.serve_context.service.now))
+            (W.hint (arc_value accept_context.now.serve_context.service.now))) result.1 count seat.known result.0.known self.old self.new }
         ensures same { result.0.book ≡ seat.book }
     {
         let ServeContext { rt, book, .. } = accept_context.serve_context;
@@ -158,7 +164,8 @@ where
         P: Spawner<ConnectionWork<A::Link, C, Silent, W>>,
         requires book { seat.book ≡ arc_value book.now }
         requires can_call { W.can_call (arc_value made.0) }
-        ensures served { HostServed (host_seen A.accept_traffic P.given J.noted D.sock_traffic C.readings A.faults P.faults D.failed_receives D.failed_sends)
+        ensures served { HostServed (host_seen A.accept_traffic P.given J.noted D.sock_traffic C.readings A.faults P.faults
+            D.failed_receives D.failed_sends)
             (accept_observed A.tells P.tells) (sock_observed D.tells C.tells J.tells)
             (serving (W.answer (arc_value made.0)) (W.hint (arc_value made.0))) result.1 count seat.known result.0.known self.old self.new }
         ensures same { result.0.book ≡ seat.book }
@@ -235,7 +242,8 @@ where
     W::Stream: Send,
     requires book { seat.book ≡ arc_value book.now }
     requires can_call { W.can_call service }
-    ensures served { HostServed (host_seen A.accept_traffic P.given J.noted D.sock_traffic C.readings A.faults P.faults D.failed_receives D.failed_sends)
+    ensures served { HostServed (host_seen A.accept_traffic P.given J.noted D.sock_traffic C.readings A.faults P.faults
+        D.failed_receives D.failed_sends)
         (accept_observed A.tells P.tells) (sock_observed D.tells C.tells J.tells)
         (serving (W.answer service) (W.hint service)) result.1 count seat.known result.0.known host.old host.new }
     ensures same { result.0.book ≡ seat.book }

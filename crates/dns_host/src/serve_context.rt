@@ -72,8 +72,10 @@ impl<R: Wait, W: SharedService> ServeContext<'_, R, W> {
     ) -> (BookSeat, DgramEnd, bool)
         requires place { MatchOption place.old ⊥ (λ seat. seat.book ≡ arc_value self.now.book.now) }
         requires can_call { W.can_call (arc_value self.now.service.now) }
-        ensures went { MatchOption place.old ⊥ (λ seat. DgramsWent D.tells D.sock_traffic D.failed_receives D.failed_sends C.tells C.readings J.tells J.noted
-            (serving (W.answer (arc_value self.now.service.now)) (W.hint (arc_value self.now.service.now))) result.1 result.2 count seat.known result.0.known sock.old sock.new clock.old clock.new journal.old journal.new) }
+        ensures went { MatchOption place.old ⊥ (λ seat.
+            DgramsWent D.tells D.sock_traffic D.failed_receives D.failed_sends C.tells C.readings J.tells J.noted
+            (serving (W.answer (arc_value self.now.service.now)) (W.hint (arc_value self.now.service.now))) result.1 result.2 count
+            seat.known result.0.known sock.old sock.new clock.old clock.new journal.old journal.new) }
         ensures same { result.0.book ≡ arc_value self.now.book.now }
     {
         let seat = place.take().unwrap();

@@ -42,7 +42,9 @@ pub record IsSent (z : ZoneState) (soa : Record) (most : ℕ) : Type 0 where
 
 -- comes back, its SOA record first
 abbrev pub ZonesComeBack : Type 0
-ZonesComeBack = (z : ZoneState) (soa : Record) (id most : ℕ) → IsSent z soa most → all_taken (incoming id z.apex most) (soa_records z ++ (other_records z ++ soa_records z)) ≡ record (incoming id z.apex most) { records = soa ∷ other_records z; status = Done }
+ZonesComeBack = (z : ZoneState) (soa : Record) (id most : ℕ) → IsSent z soa most
+    → all_taken (incoming id z.apex most) (soa_records z ++ (other_records z ++ soa_records z))
+    ≡ record (incoming id z.apex most) { records = soa ∷ other_records z; status = Done }
 
 -- of a message that is written, the answers are taken
 pub record IsAnswer (s : IncomingState) (m : Msg) (rs : List Record) : Type 0 where
@@ -75,4 +77,7 @@ CanBeWritten o b = IsMessage (transfer_message o b)
 
 -- the zone comes back of the octets that are sent
 abbrev pub SentZonesComeBack : Type 0
-SentZonesComeBack = (z : ZoneState) (soa : Record) (o : List ℕ) (most : ℕ) → IsSent z soa most → AllByRecursion HasTypedData z.records → AllByRecursion (CanBeWritten o) (bunched (transfer_records z)) → messages_taken (incoming (header_of o).id z.apex most) (sent_octets z o) ≡ record (incoming (header_of o).id z.apex most) { records = soa ∷ other_records z; status = Done }
+SentZonesComeBack = (z : ZoneState) (soa : Record) (o : List ℕ) (most : ℕ) → IsSent z soa most
+    → AllByRecursion HasTypedData z.records → AllByRecursion (CanBeWritten o) (bunched (transfer_records z))
+    → messages_taken (incoming (header_of o).id z.apex most) (sent_octets z o)
+    ≡ record (incoming (header_of o).id z.apex most) { records = soa ∷ other_records z; status = Done }

@@ -35,7 +35,8 @@ pub trait AsyncAccept {
 
     /// Accepts one connection.
     fn poll_accept(&mut self) -> AcceptAnswer<Self::Link>
-        ensures moves { Observed (tells self.new) (tells self.old) (AcceptMoves result (accept_traffic self.old) (accept_traffic self.new)) }
+        ensures moves { Observed (tells self.new) (tells self.old)
+            (AcceptMoves result (accept_traffic self.old) (accept_traffic self.new)) }
         ensures later { faults self.old ≤ faults self.new }
         ensures cause { AcceptCause result (faults self.old) (faults self.new) };
 

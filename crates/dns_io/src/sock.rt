@@ -53,7 +53,8 @@ pub trait AsyncDgramSock {
 
     /// Sends one datagram.
     fn poll_send_to(&mut self, octets: &[u8], to: SocketAddr) -> DgramSend
-        ensures moves { Observed (tells self.new) (tells self.old) (SendMoves result octets.now to (sock_traffic self.old) (sock_traffic self.new)) }
+        ensures moves { Observed (tells self.new) (tells self.old)
+            (SendMoves result octets.now to (sock_traffic self.old) (sock_traffic self.new)) }
         ensures bound { SendBound result octets.now }
         ensures receives { failed_receives self.new ≡ failed_receives self.old }
         ensures later { failed_sends self.old ≤ failed_sends self.new }
@@ -68,7 +69,8 @@ pub trait AsyncDgramSock {
 
     /// Receives one datagram. What the buffer has no room for is lost.
     fn try_recv_buf_from(&mut self, buf: &mut [u8]) -> DgramRecv
-        ensures moves { Observed (tells self.new) (tells self.old) (RecvMoves result buf.new (sock_traffic self.old) (sock_traffic self.new)) }
+        ensures moves { Observed (tells self.new) (tells self.old)
+            (RecvMoves result buf.new (sock_traffic self.old) (sock_traffic self.new)) }
         ensures bound { RecvBound result buf.new }
         ensures sends { failed_sends self.new ≡ failed_sends self.old }
         ensures later { failed_receives self.old ≤ failed_receives self.new }

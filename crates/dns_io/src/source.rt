@@ -65,7 +65,8 @@ const PIECE: usize = 65_536;
 
 /// Reads a source to its end, up to 65,536 octets by one read. At most `LIMIT + 1` octets are taken from it.
 pub fn read_all<S: Source>(alloc: Global, source: &mut S) -> Result<Vec<u8>, ReadError>
-    ensures observed { Observed (S.tells source.new) (S.tells source.old) (ReadTo (λ v. v.items) result (S.left source.old) (S.left source.new)) }
+    ensures observed { Observed (S.tells source.new) (S.tells source.old)
+        (ReadTo (λ v. v.items) result (S.left source.old) (S.left source.new)) }
     ensures few { IfOk result (λ v. length v.items ≤ LIMIT) }
     ensures later { S.faults source.old ≤ S.faults source.new }
     ensures cause { ReadAllCause result (S.faults source.old) (S.faults source.new) }

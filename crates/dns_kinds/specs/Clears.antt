@@ -31,7 +31,8 @@ more_octets : (s : ℕ) → octets_for (suc s) ≡ suc (octets_for (suc s - 8))
 more_octets s = omega arith
 
 -- what stands past the bits is zeros
-pub padded_again : (s : ℕ) (a : List ℕ) → AreOctets a → masked s a ≡ a → take (octets_for s) a ++ drop (octets_for s) (replicate (length a) 0) ≡ a
+pub padded_again : (s : ℕ) (a : List ℕ) → AreOctets a → masked s a ≡ a
+    → take (octets_for s) a ++ drop (octets_for s) (replicate (length a) 0) ≡ a
 padded_again zero [] small e = refl
 padded_again (suc s) [] small e = rw (more_octets s) refl
 padded_again zero (x ∷ a) small e =
@@ -58,7 +59,8 @@ too_few : (w n : ℕ) → n ≤ w → nat_lt w n ≡ false
 too_few w n h = grind (arith, nat_tests)
 
 -- an address without bits past the prefix comes back
-pub address_again : (w s : ℕ) (a : List ℕ) → s ≤ 8 * w → length a ≡ w → masked s a ≡ a → AreOctets a → (address w s (take (octets_for s) a) ≡ Ok a) × (length (take (octets_for s) a) ≡ octets_for s)
+pub address_again : (w s : ℕ) (a : List ℕ) → s ≤ 8 * w → length a ≡ w → masked s a ≡ a → AreOctets a
+    → (address w s (take (octets_for s) a) ≡ Ok a) × (length (take (octets_for s) a) ≡ octets_for s)
 unfolding address
 address_again w s a short size clear small =
     let room : octets_for s ≤ w = enough s w short in
@@ -68,21 +70,27 @@ address_again w s a short size clear small =
     let same : pointwise nat_eq (masked s a) a ≡ true = rw clear (alike a) in
     (rw (too_few w (octets_for s) room, full, taken, same_number (octets_for s), same) refl, taken)
 
-v4_again : (s c : ℕ) (a : List ℕ) → IsSubnet s (V4 a) → AreOctets a → kind (for_code 8 subnet_data) 8 (0 ∷ 1 ∷ s ∷ c ∷ take (octets_for s) a) ≡ Some (Ok (record { source = s; scope = c; addr = V4 a }))
+v4_again : (s c : ℕ) (a : List ℕ) → IsSubnet s (V4 a) → AreOctets a
+    → kind (for_code 8 subnet_data) 8 (0 ∷ 1 ∷ s ∷ c ∷ take (octets_for s) a) ≡ Some (Ok (record { source = s; scope = c; addr = V4 a }))
 v4_again s c a h o =
     let back = address_again 4 s a h.0 h.1 h.2 o in
     let d : List ℕ = 0 ∷ 1 ∷ s ∷ c ∷ take (octets_for s) a in
     let long : length (take (octets_for s) a) + 4 ≡ length d = omega arith in
-    ap (λ x. Some (whole d (with_address V4 s c (length (take (octets_for s) a) + 4) x))) back.0 ∙ ap (λ x. Some x) (taken_whole d (length (take (octets_for s) a) + 4) (record { source = s; scope = c; addr = V4 a }) long)
+    ap (λ x. Some (whole d (with_address V4 s c (length (take (octets_for s) a) + 4) x))) back.0 ∙ ap (λ x. Some x)
+    (taken_whole d (length (take (octets_for s) a) + 4) (record { source = s; scope = c; addr = V4 a }) long)
 
-v6_again : (s c : ℕ) (a : List ℕ) → IsSubnet s (V6 a) → AreOctets a → kind (for_code 8 subnet_data) 8 (0 ∷ 2 ∷ s ∷ c ∷ take (octets_for s) a) ≡ Some (Ok (record { source = s; scope = c; addr = V6 a }))
+v6_again : (s c : ℕ) (a : List ℕ) → IsSubnet s (V6 a) → AreOctets a
+    → kind (for_code 8 subnet_data) 8 (0 ∷ 2 ∷ s ∷ c ∷ take (octets_for s) a) ≡ Some (Ok (record { source = s; scope = c; addr = V6 a }))
 v6_again s c a h o =
     let back = address_again 16 s a h.0 h.1 h.2 o in
     let d : List ℕ = 0 ∷ 2 ∷ s ∷ c ∷ take (octets_for s) a in
     let long : length (take (octets_for s) a) + 4 ≡ length d = omega arith in
-    ap (λ x. Some (whole d (with_address V6 s c (length (take (octets_for s) a) + 4) x))) back.0 ∙ ap (λ x. Some x) (taken_whole d (length (take (octets_for s) a) + 4) (record { source = s; scope = c; addr = V6 a }) long)
+    ap (λ x. Some (whole d (with_address V6 s c (length (take (octets_for s) a) + 4) x))) back.0 ∙ ap (λ x. Some x)
+    (taken_whole d (length (take (octets_for s) a) + 4) (record { source = s; scope = c; addr = V6 a }) long)
 
-by_address : (s c : ℕ) (x : IpAddr) → IsSubnet s x → AreOctets (address_octets x) → kind (for_code 8 subnet_data) 8 (subnet_octets (record { source = s; scope = c; addr = x })) ≡ Some (Ok (record { source = s; scope = c; addr = x }))
+by_address : (s c : ℕ) (x : IpAddr) → IsSubnet s x → AreOctets (address_octets x)
+    → kind (for_code 8 subnet_data) 8 (subnet_octets (record { source = s; scope = c; addr = x }))
+    ≡ Some (Ok (record { source = s; scope = c; addr = x }))
 by_address s c (V4 a) h o = v4_again s c a h o
 by_address s c (V6 a) h o = v6_again s c a h o
 

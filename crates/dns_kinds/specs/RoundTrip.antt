@@ -10,7 +10,8 @@ use Rattle.dns_kinds.specs.Timers.{expire_data, expire_octets, keepalive_data, k
 use Rattle.dns_kinds.specs.Extended.{Extended, IsExtended, TextFits, extended, extended_data, extended_of, extended_octets, taken_text, text_octets}
 use Rattle.dns_kinds.specs.Chains.{chain_data}
 
-four_again : (n : ℕ) → n < 4294967296 → 65536 * (256 * (n / 65536 / 256) + n / 65536 % 256) + (256 * (n % 65536 / 256) + n % 65536 % 256) ≡ n
+four_again : (n : ℕ) → n < 4294967296 → 65536 * (256 * (n / 65536 / 256) + n / 65536 % 256)
+    + (256 * (n % 65536 / 256) + n % 65536 % 256) ≡ n
 four_again n h = omega arith
 
 two_again : (n : ℕ) → 256 * (n / 256) + n % 256 ≡ n
@@ -38,12 +39,14 @@ room m n e h = grind (arith, nat_tests)
 short_data : (d : List ℕ) → nat_lt 65535 (length d) ≡ false → extended_data d ≡ extended_of d
 short_data d h = rw h refl
 
-by_text : (c : ℕ) (t : Option (List ℕ)) → TextFits t → t ≢ Some [] → kind (for_code 15 extended_data) 15 (extended_octets (extended c t)) ≡ Some (Ok (extended c t))
+by_text : (c : ℕ) (t : Option (List ℕ)) → TextFits t → t ≢ Some []
+    → kind (for_code 15 extended_data) 15 (extended_octets (extended c t)) ≡ Some (Ok (extended c t))
 by_text c t r o =
     let d : List ℕ = extended_octets (extended c t) in
     let long : length d ≡ length (text_octets t) + 2 = omega arith in
     let read : extended_of d ≡ Ok (extended c t, length (text_octets t) + 2) = rw (text_again t o, two_again c) refl in
-    let found : extended_data d ≡ Ok (extended c t, length (text_octets t) + 2) = short_data d (room (length d) (length (text_octets t)) long r) ∙ read in
+    let found : extended_data d ≡ Ok (extended c t, length (text_octets t) + 2)
+    = short_data d (room (length d) (length (text_octets t)) long r) ∙ read in
     ap (λ x. Some (whole d x)) found ∙ ap (λ x. Some x) (taken_whole d (length (text_octets t) + 2) (extended c t) (sym long))
 
 pub extended_again : (k : Extended) → IsExtended k → kind (for_code 15 extended_data) 15 (extended_octets k) ≡ Some (Ok k)

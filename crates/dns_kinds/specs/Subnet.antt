@@ -41,7 +41,8 @@ with_zeros w d = d ++ drop (length d) (replicate w 0)
 unfoldable pub address : ℕ → ℕ → List ℕ → Result (List ℕ) ParseError
 address w s d =
     if nat_lt w (octets_for s) then Err (Form AddressLength)
-    else (if nat_eq (length d) (octets_for s) then (if pointwise nat_eq (masked s (with_zeros w d)) (with_zeros w d) then Ok (with_zeros w d) else Err (Form AddressBits))
+    else (if nat_eq (length d) (octets_for s)
+    then (if pointwise nat_eq (masked s (with_zeros w d)) (with_zeros w d) then Ok (with_zeros w d) else Err (Form AddressBits))
     else Err (Form AddressLength))
 
 abbrev pub with_address : (List ℕ → IpAddr) → ℕ → ℕ → ℕ → Result (List ℕ) ParseError → Taken Subnet

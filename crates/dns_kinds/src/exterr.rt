@@ -184,7 +184,8 @@ impl HeldExtendedError<Vec<u8>> {
 
     /// Sets the text, which is not copied. A refused call leaves the value.
     pub fn set_text(&mut self, text: Vec<u8>) -> Result<(), LongOptData>
-        ensures { MatchResult result (λ _. (length text.items ≤ 65533) × (self.new ≡ extended self.old.code (Some text.items))) (λ _. (65533 < length text.items) × (self.new ≡ self.old)) }
+        ensures { MatchResult result (λ _. (length text.items ≤ 65533) × (self.new ≡ extended self.old.code (Some text.items)))
+            (λ _. (65533 < length text.items) × (self.new ≡ self.old)) }
     {
         if text.len() > 65533 {
             return Err(LongOptData);

@@ -79,7 +79,8 @@ denied_over (Udp hint) denied address = list_any (same_address address) denied
 denied_over (NonUdp timeout) denied address = false
 
 abbrev pub cookie_answer : {Meta : Type 0} → List ℕ → List IpAddr → Req Meta → Option CookieAnswer
-cookie_answer secret denied r = own_answer (verdict secret r) (nat_eq (asked_of r.octets).qdcount 0) (denied_over r.transport denied r.client_addr.ip)
+cookie_answer secret denied r = own_answer (verdict secret r) (nat_eq (asked_of r.octets).qdcount 0)
+    (denied_over r.transport denied r.client_addr.ip)
 
 -- ---- the messages
 
@@ -93,7 +94,8 @@ begun_reply = record { message = empty; limit = 65535 }
 
 -- the draft of an OPT record of size 0 and version 0 with a cookie, and the code
 abbrev pub cookie_draft : Built → ℕ → Cookie → OptDraft
-cookie_draft b code c = record (opened_opt b) { head = record zero_head { ext = code / 16 }; low = code % 16; options = option_octets 10 (cookie_octets c) }
+cookie_draft b code c = record (opened_opt b)
+    { head = record zero_head { ext = code / 16 }; low = code % 16; options = option_octets 10 (cookie_octets c) }
 
 -- a message with that record, or as it is where the record has no room
 abbrev pub with_cookie : Built → ℕ → Cookie → Built
@@ -101,7 +103,8 @@ with_cookie b code c = if within_limit (with_opt_record (cookie_draft b code c) 
 
 -- an answer with that record, or SERVFAIL where the questions have no room
 abbrev pub fresh_reply : List ℕ → ℕ → Cookie → Msg
-fresh_reply o code c = if have_room begun_reply o (code % 16) then (with_cookie (answer_to begun_reply o (code % 16)) code c).message else error_reply o servfail
+fresh_reply o code c = if have_room begun_reply o (code % 16)
+    then (with_cookie (answer_to begun_reply o (code % 16)) code c).message else error_reply o servfail
 
 -- the message of such an answer: a cookie is made of the client part that was sent, at this time
 abbrev pub own_message : List ℕ → List ℕ → ℕ → IpAddr → CookieAnswer → Msg
@@ -111,7 +114,8 @@ own_message secret o now address (Fresh code c) = fresh_reply o code (response s
 -- the layer's own reply, where the layer is on and has one
 abbrev pub cookie_own : {Meta : Type 0} → Option (List ℕ) → List IpAddr → Req Meta → Option Msg
 cookie_own None denied r = None
-cookie_own (Some secret) denied r = option_map (own_message secret r.octets (r.received_secs % 2 ^ 32) r.client_addr.ip) (cookie_answer secret denied r)
+cookie_own (Some secret) denied r = option_map (own_message secret r.octets (r.received_secs % 2 ^ 32) r.client_addr.ip)
+    (cookie_answer secret denied r)
 
 -- ---- the layer
 

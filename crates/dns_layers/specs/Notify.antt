@@ -53,11 +53,13 @@ notified_serial o = serial_reached (reached (questions_of o).1 (standing_answers
 -- by the first question, where that can be read and is for a zone's start
 abbrev pub notice_by : List ℕ → IpAddr → Option Question → Option Notice
 notice_by o source None = None
-notice_by o source (Some q) = if nat_eq q.qtype soa_type then Some (record { class = q.qclass; apex_name = q.qname; serial = notified_serial o; source = source }) else None
+notice_by o source (Some q) = if nat_eq q.qtype soa_type
+    then Some (record { class = q.qclass; apex_name = q.qname; serial = notified_serial o; source = source }) else None
 
 -- what the target is asked by a request of opcode NOTIFY
 abbrev pub notice_of : {Meta : Type 0} → Req Meta → Option Notice
-notice_of r = if nat_eq (asked_of r.octets).opcode notify_opcode then notice_by r.octets r.client_addr.ip (first_of (questions_of r.octets).0) else None
+notice_of r = if nat_eq (asked_of r.octets).opcode notify_opcode
+    then notice_by r.octets r.client_addr.ip (first_of (questions_of r.octets).0) else None
 
 -- ---- the reply
 

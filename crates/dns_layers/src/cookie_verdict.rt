@@ -164,7 +164,8 @@ fn sent_answer(
     cookie: Cookie,
     unasked: bool,
 ) -> Option<CookieAnswer>
-    ensures { result ≡ own_answer (sent_verdict cookie cookie.server (is_good secret.now address now.0 cookie)) unasked (denied_over transport.now denied.now address) }
+    ensures { result ≡ own_answer (sent_verdict cookie cookie.server (is_good secret.now address now.0 cookie)) unasked
+        (denied_over transport.now denied.now address) }
 {
     if unasked {
         let verdict = verdict_by(secret, address, now, AskedCookie::Sent(cookie));

@@ -78,7 +78,8 @@ impl<S> CookiesMiddlewareSvc<S> {
         alloc: Global,
         request: &Request<Meta>,
     ) -> Result<Option<AdditionalBuilder>, OutOfMemory>
-        ensures { IfOk result (λ own. message_in own ≡ cookie_own (secret_where self.now.enabled self.now.secret) self.now.denied request.now) }
+        ensures { IfOk result (λ own. message_in own
+            ≡ cookie_own (secret_where self.now.enabled self.now.secret) self.now.denied request.now) }
     {
         let asked = read_request(request);
         let secret = self.secret();

@@ -24,7 +24,8 @@ pub type Layered<S, Meta, R> = MiddlewareStream<
 pub fn of_own<S: Service<Meta>, Meta, M: ReplyStream>(
     reply: AdditionalBuilder,
 ) -> Now<MiddlewareStream<S::Future, S::Stream, M, Once>>
-    ensures { (k : ℕ) → ⟦<Now<MiddlewareStream<S::Future, S::Stream, M, Once>> as ReplyFuture>⟧.answer result k ≡ own_reply reply.message k }
+    ensures { (k : ℕ) → ⟦<Now<MiddlewareStream<S::Future, S::Stream, M, Once>> as ReplyFuture>⟧.answer result k
+        ≡ own_reply reply.message k }
 {
     Now::new(MiddlewareStream::Result(alone(reply)))
 }
@@ -44,7 +45,8 @@ pub fn of_mapped<S: Service<Meta>, Meta, R: Rewrite>(
     original: Request<()>,
     rule: R,
 ) -> Now<Layered<S, Meta, R>>
-    ensures { (k : ℕ) → ⟦<Now<Layered<S, Meta, R>> as ReplyFuture>⟧.answer result k ≡ mapped (rewritten (R.rewriting rule)) (S.Future.answer future k) }
+    ensures { (k : ℕ) → ⟦<Now<Layered<S, Meta, R>> as ReplyFuture>⟧.answer result k
+        ≡ mapped (rewritten (R.rewriting rule)) (S.Future.answer future k) }
 {
     let pp = Rewriting { rule };
     Now::new(MiddlewareStream::Map(PostprocessingStream::new(future, original, pp)))

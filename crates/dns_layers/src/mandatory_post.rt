@@ -64,7 +64,8 @@ fn respond(id: u16, rd: bool, reply: &mut AdditionalBuilder)
 
 /// A rewritten reply over UDP has no more octets than the hint allows, and 512 where the hint allows less.
 pub fn replies_fit()
-    ensures { (r : Req (Unit {0})) (before hint : Option ℕ) (m : Msg) → r.transport ≡ TransportSpecificContext.Udp before → length (wire (mand_post (limit hint) r m)) ≤ limit hint }
+    ensures { (r : Req (Unit {0})) (before hint : Option ℕ) (m : Msg) → r.transport ≡ TransportSpecificContext.Udp before
+        → length (wire (mand_post (limit hint) r m)) ≤ limit hint }
 {
     cut_fits();
 }

@@ -67,7 +67,12 @@ fn made_notice(
     question: &QuestionRef<'_>,
     source: IpAddr,
 ) -> Result<Notice, OutOfMemory>
-    ensures { IfOk result (λ n. n ≡ record { class = question.now.qclass; apex_name = question.now.qname; serial = notified_serial message.now; source = source }) }
+    ensures { IfOk result (λ n. n ≡ record {
+      class = question.now.qclass;
+      apex_name = question.now.qname;
+      serial = notified_serial message.now;
+      source = source;
+    }) }
 {
     let apex_name = question.qname().to_name(alloc)?;
     let serial = notified_serial(alloc, message)?;

@@ -31,7 +31,8 @@ pub struct Rewriting<R> {
 impl<R: Rewrite> Rewriting<R> {
     /// Maps the items of a service by this rule.
     pub fn new(rule: R) -> Self
-        ensures { (r : Request (Unit {0})) (i : Item) → ⟦<Rewriting<R> as Postprocess<()>>⟧.post result r i ≡ rewritten (R.rewriting rule) i }
+        ensures { (r : Request (Unit {0})) (i : Item)
+            → ⟦<Rewriting<R> as Postprocess<()>>⟧.post result r i ≡ rewritten (R.rewriting rule) i }
     {
         Rewriting { rule }
     }

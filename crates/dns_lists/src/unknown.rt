@@ -55,7 +55,8 @@ impl<S: HoldsOctets> HeldUnknown<S> {
 
     /// The data of a code.
     pub fn new(code: OptionCode, octets: S) -> Result<HeldUnknown<S>, LongOptData>
-        ensures { MatchResult result (λ k. (length (S.octets octets) ≤ 65535) × (k ≡ unknown code (S.octets octets))) (λ _. 65535 < length (S.octets octets)) }
+        ensures { MatchResult result (λ k. (length (S.octets octets) ≤ 65535) × (k ≡ unknown code (S.octets octets)))
+            (λ _. 65535 < length (S.octets octets)) }
     {
         LongOptData::check_len(octets.as_octets().len())?;
         Ok(HeldUnknown::of(code, octets))

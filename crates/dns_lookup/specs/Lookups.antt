@@ -37,7 +37,13 @@ question s = with_id s.id s.message
 
 -- the asking in datagrams, and that over a connection, which is sent once
 abbrev pub by_datagrams : Subject → Inquiry
-by_datagrams s = record { message = s.message; id = s.id; tries = in_range 1 8 s.upstream.tries; timeout = max s.upstream.timeout 1; at = s.at }
+by_datagrams s = record {
+  message = s.message;
+  id = s.id;
+  tries = in_range 1 8 s.upstream.tries;
+  timeout = max s.upstream.timeout 1;
+  at = s.at;
+}
 
 abbrev pub by_connection : Subject → ℕ → Inquiry
 by_connection s at = record { message = s.message; id = s.id; tries = in_range 1 8 1; timeout = max s.upstream.timeout 1; at = at }

@@ -44,7 +44,8 @@ abbrev pub DatagramsLead : Lookup → Lookup → (Subject → List AskingEvent �
 DatagramsLead old new led o = (s : Subject) (es : List AskingEvent) → IsAt s (InDatagrams es) old → LeadsTo s (led s es) new o
 
 abbrev pub ConnectionLeads : Lookup → Lookup → (List ℕ → ℕ → List AskingEvent → Led) → LookupOutcome → Type 0
-ConnectionLeads old new led o = (s : Subject) (m : List ℕ) (at : ℕ) (es : List AskingEvent) → IsAt s (OverConnection m at es) old → LeadsTo s (led m at es) new o
+ConnectionLeads old new led o = (s : Subject) (m : List ℕ) (at : ℕ) (es : List AskingEvent) → IsAt s (OverConnection m at es) old
+    → LeadsTo s (led m at es) new o
 
 -- an event in datagrams, of which the asking heard this: it leads to what that leads to, or nothing is changed
 abbrev pub DatagramLeads : Lookup → LookupEvent → Option AskingOutcome → Lookup → LookupOutcome → Type 0

@@ -74,7 +74,8 @@ SockTells t = StillCounts t.receives.agains × StillCounts t.sends.agains
 -- one receive, with the socket a before it and b after it; Again comes also where no datagram is left
 abbrev pub SockReceives : DgramRecv → SockState → SockState → Type 0
 SockReceives (RecvGot n from) a b = TakesFate CarriedOut a.receives b.receives × (length a.left ≡ length b.left + 1)
-SockReceives RecvAgain a b = (b.receives ≡ record a.receives { made = next a.receives.made; agains = next a.receives.agains }) × (b.left ≡ a.left)
+SockReceives RecvAgain a b = (b.receives ≡ record a.receives { made = next a.receives.made; agains = next a.receives.agains })
+    × (b.left ≡ a.left)
 SockReceives RecvFailed a b = TakesFate FailedFate a.receives b.receives × (b.left ≡ a.left)
 
 -- one send; one for which there is no memory fails too
@@ -93,7 +94,8 @@ pub record AcceptState (L : Type 0) : Type 0 where
 abbrev pub accept_traffic_of : {L : Type 0} → AcceptState L → AcceptTraffic
 accept_traffic_of l = record { callers = l.callers; empty_accepts = l.calls.agains }
 
--- one accept, with the object a before it and b after it; Again comes also where no connection is left, and one for whose address there is no memory fails too
+-- one accept, with the object a before it and b after it; Again comes also where no connection is left, and one for whose address
+-- there is no memory fails too
 abbrev pub AcceptsNext : {L : Type 0} → AcceptAnswer L → AcceptState L → AcceptState L → Type 0
 AcceptsNext (Accepted link from) a b = TakesFate CarriedOut a.calls b.calls × (a.left ≡ (link, from) ∷ b.left)
 AcceptsNext AcceptAgain a b = (b.calls ≡ record a.calls { made = next a.calls.made; agains = next a.calls.agains }) × (a.left ≡ b.left)

@@ -61,7 +61,8 @@ impl<D: Drop> KeptThreads<D> {
 
     /// Gives a thread, until none is left.
     pub(crate) fn next(&mut self) -> Option<Started<D>>
-        ensures { MatchOption result ((vec_len self.old.threads ≡ 0) × (vec_len self.new.threads ≡ 0)) (λ _. vec_len self.new.threads + 1 ≡ vec_len self.old.threads) }
+        ensures { MatchOption result ((vec_len self.old.threads ≡ 0) × (vec_len self.new.threads ≡ 0))
+            (λ _. vec_len self.new.threads + 1 ≡ vec_len self.old.threads) }
     {
         self.threads.pop()
     }

@@ -23,7 +23,13 @@ impl Model for MemorySource {
 
     ghost Value = { Supply };
 
-    ghost view = { λ s. record { left = s.octets.left; most = s.most; failing = s.calls.listed.items; calls = s.calls.made; faults = s.calls.faults } };
+    ghost view = { λ s. record {
+      left = s.octets.left;
+      most = s.most;
+      failing = s.calls.listed.items;
+      calls = s.calls.made;
+      faults = s.calls.faults;
+    } };
 }
 
 impl MemorySource {
@@ -88,7 +94,13 @@ impl Model for MemorySink {
 
     ghost Value = { Store };
 
-    ghost view = { λ s. record { taken = s.octets.items; most = s.most; failing = s.calls.listed.items; calls = s.calls.made; faults = s.calls.faults } };
+    ghost view = { λ s. record {
+      taken = s.octets.items;
+      most = s.most;
+      failing = s.calls.listed.items;
+      calls = s.calls.made;
+      faults = s.calls.faults;
+    } };
 }
 
 impl MemorySink {

@@ -58,7 +58,8 @@ impl<L: Link + Drop> AsyncAccept for MemoryAccept<L> {
     ghost faults = { λ s. s.calls.faults };
 
     fn poll_accept(&mut self) -> AcceptAnswer<L>
-        ensures moves { Observed (StillCounts self.new.calls.agains) (StillCounts self.old.calls.agains) (AcceptMoves result (accept_traffic_of self.old) (accept_traffic_of self.new)) }
+        ensures moves { Observed (StillCounts self.new.calls.agains) (StillCounts self.old.calls.agains)
+            (AcceptMoves result (accept_traffic_of self.old) (accept_traffic_of self.new)) }
         ensures later { self.old.calls.faults ≤ self.new.calls.faults }
         ensures cause { AcceptCause result self.old.calls.faults self.new.calls.faults }
         ensures gives { AcceptsNext result self.old self.new }
@@ -83,7 +84,8 @@ impl<L: Link + Drop> AsyncAccept for MemoryAccept<L> {
     }
 
     fn wait<R: Wait>(&mut self, _rt: &R, _millis: u64)
-        ensures moves { Observed (StillCounts self.new.calls.agains) (StillCounts self.old.calls.agains) (accept_traffic_of self.new ≡ accept_traffic_of self.old) }
+        ensures moves { Observed (StillCounts self.new.calls.agains) (StillCounts self.old.calls.agains)
+            (accept_traffic_of self.new ≡ accept_traffic_of self.old) }
         ensures same { self.new.calls.faults ≡ self.old.calls.faults }
         ensures kept { self.new ≡ self.old }
     {}

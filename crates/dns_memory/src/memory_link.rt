@@ -28,7 +28,15 @@ impl Model for MemoryLink {
 
     ghost Value = { LinkState };
 
-    ghost view = { λ s. record { left = s.input.left; came = s.input.came; went = s.output.items; most = s.most; ends = s.ends; reads = s.reads; writes = s.writes } };
+    ghost view = { λ s. record {
+      left = s.input.left;
+      came = s.input.came;
+      went = s.output.items;
+      most = s.most;
+      ends = s.ends;
+      reads = s.reads;
+      writes = s.writes;
+    } };
 }
 
 impl MemoryLink {
@@ -41,7 +49,15 @@ impl MemoryLink {
         reads: ListedCalls,
         writes: ListedCalls,
     ) -> MemoryLink
-        ensures { result ≡ record { left = input.items; came = []; went = output.items; most = most; ends = 0; reads = reads; writes = writes } }
+        ensures { result ≡ record {
+          left = input.items;
+          came = [];
+          went = output.items;
+          most = most;
+          ends = 0;
+          reads = reads;
+          writes = writes;
+        } }
     {
         MemoryLink {
             input: OctetReplay::new(input),
@@ -71,10 +87,12 @@ impl Link for MemoryLink {
     ghost faults = { λ s. s.reads.faults + s.writes.faults };
 
     fn read(&mut self, buf: &mut [u8]) -> LinkRead
-        ensures moves { Observed (LinkTells self.new) (LinkTells self.old) (LinkReadMoves result buf.new (traffic_of self.old) (traffic_of self.new)) }
+        ensures moves { Observed (LinkTells self.new) (LinkTells self.old)
+            (LinkReadMoves result buf.new (traffic_of self.old) (traffic_of self.new)) }
         ensures bound { LinkReadBound result buf.new }
         ensures later { self.old.reads.faults + self.old.writes.faults ≤ self.new.reads.faults + self.new.writes.faults }
-        ensures cause { LinkReadCause result (self.old.reads.faults + self.old.writes.faults) (self.new.reads.faults + self.new.writes.faults) }
+        ensures cause { LinkReadCause result (self.old.reads.faults + self.old.writes.faults)
+            (self.new.reads.faults + self.new.writes.faults) }
         ensures gives { LinkReads result (length buf.old) self.old self.new }
         ensures input { self.new.came ++ self.new.left ≡ self.old.came ++ self.old.left }
         ensures kept { (self.new.writes ≡ self.old.writes) × (self.new.most ≡ self.old.most) }
@@ -94,10 +112,12 @@ impl Link for MemoryLink {
     }
 
     fn write(&mut self, piece: &[u8]) -> LinkWrite
-        ensures moves { Observed (LinkTells self.new) (LinkTells self.old) (LinkWriteMoves result piece.now (traffic_of self.old) (traffic_of self.new)) }
+        ensures moves { Observed (LinkTells self.new) (LinkTells self.old)
+            (LinkWriteMoves result piece.now (traffic_of self.old) (traffic_of self.new)) }
         ensures bound { LinkWriteBound result piece.now }
         ensures later { self.old.reads.faults + self.old.writes.faults ≤ self.new.reads.faults + self.new.writes.faults }
-        ensures cause { LinkWriteCause result (self.old.reads.faults + self.old.writes.faults) (self.new.reads.faults + self.new.writes.faults) }
+        ensures cause { LinkWriteCause result (self.old.reads.faults + self.old.writes.faults)
+            (self.new.reads.faults + self.new.writes.faults) }
         ensures takes { LinkWrites result (length piece.now) self.old self.new }
         ensures listed { Contains self.old.writes.failing.items self.old.writes.made → result ≡ LinkWrite.Failed }
         ensures kept { (self.new.reads ≡ self.old.reads) × (self.new.most ≡ self.old.most) × (self.new.left ≡ self.old.left) }

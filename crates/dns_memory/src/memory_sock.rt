@@ -30,7 +30,13 @@ impl Model for MemorySock {
 
     ghost Value = { SockState };
 
-    ghost view = { λ s. record { left = s.incoming.left; received = s.incoming.came; sent = s.outgoing.items; receives = s.receives; sends = s.sends } };
+    ghost view = { λ s. record {
+      left = s.incoming.left;
+      received = s.incoming.came;
+      sent = s.outgoing.items;
+      receives = s.receives;
+      sends = s.sends;
+    } };
 }
 
 impl MemorySock {
@@ -70,7 +76,8 @@ impl AsyncDgramSock for MemorySock {
     ghost failed_sends = { λ s. s.sends.faults };
 
     fn poll_send_to(&mut self, octets: &[u8], to: SocketAddr) -> DgramSend
-        ensures moves { Observed (SockTells self.new) (SockTells self.old) (SendMoves result octets.now to (sock_traffic_of self.old) (sock_traffic_of self.new)) }
+        ensures moves { Observed (SockTells self.new) (SockTells self.old)
+            (SendMoves result octets.now to (sock_traffic_of self.old) (sock_traffic_of self.new)) }
         ensures bound { SendBound result octets.now }
         ensures receives { self.new.receives.faults ≡ self.old.receives.faults }
         ensures later { self.old.sends.faults ≤ self.new.sends.faults }
@@ -101,7 +108,8 @@ impl AsyncDgramSock for MemorySock {
     {}
 
     fn try_recv_buf_from(&mut self, buf: &mut [u8]) -> DgramRecv
-        ensures moves { Observed (SockTells self.new) (SockTells self.old) (RecvMoves result buf.new (sock_traffic_of self.old) (sock_traffic_of self.new)) }
+        ensures moves { Observed (SockTells self.new) (SockTells self.old)
+            (RecvMoves result buf.new (sock_traffic_of self.old) (sock_traffic_of self.new)) }
         ensures bound { RecvBound result buf.new }
         ensures sends { self.new.sends.faults ≡ self.old.sends.faults }
         ensures later { self.old.receives.faults ≤ self.new.receives.faults }

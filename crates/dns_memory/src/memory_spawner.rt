@@ -76,7 +76,8 @@ impl<W: Work> Spawner<W> for MemorySpawner<W> {
     fn next(&mut self) -> Option<Started<W::Done>>
         ensures given { Observed (Unit {0}) (Unit {0}) (self.new.given.items ≡ self.old.given.items) }
         ensures same { self.new.calls.faults ≡ self.old.calls.faults }
-        ensures one { MatchOption result ((vec_len self.old.threads.threads ≡ 0) × (vec_len self.new.threads.threads ≡ 0)) (λ _. vec_len self.new.threads.threads + 1 ≡ vec_len self.old.threads.threads) }
+        ensures one { MatchOption result ((vec_len self.old.threads.threads ≡ 0) × (vec_len self.new.threads.threads ≡ 0))
+            (λ _. vec_len self.new.threads.threads + 1 ≡ vec_len self.old.threads.threads) }
     {
         self.threads.next()
     }

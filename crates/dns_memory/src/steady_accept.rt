@@ -55,7 +55,8 @@ impl<L: Link + Drop> AsyncAccept for SteadyAccept<L> {
     ghost faults = { λ _. 0 };
 
     fn poll_accept(&mut self) -> AcceptAnswer<L>
-        ensures moves { Observed (SteadyAcceptTells self.new) (SteadyAcceptTells self.old) (AcceptMoves result (steady_accept_traffic self.old) (steady_accept_traffic self.new)) }
+        ensures moves { Observed (SteadyAcceptTells self.new) (SteadyAcceptTells self.old)
+            (AcceptMoves result (steady_accept_traffic self.old) (steady_accept_traffic self.new)) }
         ensures later { 0 ≤ 0 }
         ensures cause { AcceptCause result 0 0 }
         ensures gives { SteadyAcceptsNext result self.old self.new }
@@ -71,7 +72,8 @@ impl<L: Link + Drop> AsyncAccept for SteadyAccept<L> {
     }
 
     fn wait<R: Wait>(&mut self, _rt: &R, _millis: u64)
-        ensures moves { Observed (SteadyAcceptTells self.new) (SteadyAcceptTells self.old) (steady_accept_traffic self.new ≡ steady_accept_traffic self.old) }
+        ensures moves { Observed (SteadyAcceptTells self.new) (SteadyAcceptTells self.old)
+            (steady_accept_traffic self.new ≡ steady_accept_traffic self.old) }
         ensures same { ◌≡◌ {A = ℕ} 0 0 }
         ensures kept { self.new ≡ self.old }
     {}

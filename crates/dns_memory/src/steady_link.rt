@@ -57,7 +57,8 @@ impl Link for SteadyLink {
     ghost faults = { λ _. 0 };
 
     fn read(&mut self, buf: &mut [u8]) -> LinkRead
-        ensures moves { Observed (SteadyLinkTells self.new) (SteadyLinkTells self.old) (LinkReadMoves result buf.new (steady_traffic self.old) (steady_traffic self.new)) }
+        ensures moves { Observed (SteadyLinkTells self.new) (SteadyLinkTells self.old)
+            (LinkReadMoves result buf.new (steady_traffic self.old) (steady_traffic self.new)) }
         ensures bound { LinkReadBound result buf.new }
         ensures later { 0 ≤ 0 }
         ensures cause { LinkReadCause result 0 0 }
@@ -75,7 +76,8 @@ impl Link for SteadyLink {
     }
 
     fn write(&mut self, piece: &[u8]) -> LinkWrite
-        ensures moves { Observed (SteadyLinkTells self.new) (SteadyLinkTells self.old) (LinkWriteMoves result piece.now (steady_traffic self.old) (steady_traffic self.new)) }
+        ensures moves { Observed (SteadyLinkTells self.new) (SteadyLinkTells self.old)
+            (LinkWriteMoves result piece.now (steady_traffic self.old) (steady_traffic self.new)) }
         ensures bound { LinkWriteBound result piece.now }
         ensures later { 0 ≤ 0 }
         ensures cause { LinkWriteCause result 0 0 }

@@ -29,7 +29,13 @@ impl Model for SteadySock {
 
     ghost Value = { SteadySockState };
 
-    ghost view = { λ s. record { left = s.incoming.left; received = s.incoming.came; sent = s.outgoing.items; whole = s.whole; empty_receives = s.empty_receives } };
+    ghost view = { λ s. record {
+      left = s.incoming.left;
+      received = s.incoming.came;
+      sent = s.outgoing.items;
+      whole = s.whole;
+      empty_receives = s.empty_receives;
+    } };
 }
 
 impl SteadySock {
@@ -64,13 +70,15 @@ impl AsyncDgramSock for SteadySock {
     ghost failed_sends = { λ _. 0 };
 
     fn poll_send_to(&mut self, octets: &[u8], to: SocketAddr) -> DgramSend
-        ensures moves { Observed (SteadySockTells self.new) (SteadySockTells self.old) (SendMoves result octets.now to (steady_sock_traffic self.old) (steady_sock_traffic self.new)) }
+        ensures moves { Observed (SteadySockTells self.new) (SteadySockTells self.old)
+            (SendMoves result octets.now to (steady_sock_traffic self.old) (steady_sock_traffic self.new)) }
         ensures bound { SendBound result octets.now }
         ensures receives { ◌≡◌ {A = ℕ} 0 0 }
         ensures later { 0 ≤ 0 }
         ensures cause { SendCause result 0 0 }
         ensures takes { result ≡ DgramSend.Took (length octets.now) }
-        ensures kept { (self.new.left ≡ self.old.left) × (self.new.received ≡ self.old.received) × (self.new.empty_receives ≡ self.old.empty_receives) }
+        ensures kept { (self.new.left ≡ self.old.left) × (self.new.received ≡ self.old.received)
+            × (self.new.empty_receives ≡ self.old.empty_receives) }
     {
         if keep_sent(self.alloc, &mut self.outgoing, octets, to).is_err() {
             self.whole = false;
@@ -79,14 +87,16 @@ impl AsyncDgramSock for SteadySock {
     }
 
     fn readable<R: Wait>(&mut self, _rt: &R, _millis: u64)
-        ensures moves { Observed (SteadySockTells self.new) (SteadySockTells self.old) (steady_sock_traffic self.new ≡ steady_sock_traffic self.old) }
+        ensures moves { Observed (SteadySockTells self.new) (SteadySockTells self.old)
+            (steady_sock_traffic self.new ≡ steady_sock_traffic self.old) }
         ensures receives { ◌≡◌ {A = ℕ} 0 0 }
         ensures sends { ◌≡◌ {A = ℕ} 0 0 }
         ensures kept { self.new ≡ self.old }
     {}
 
     fn try_recv_buf_from(&mut self, buf: &mut [u8]) -> DgramRecv
-        ensures moves { Observed (SteadySockTells self.new) (SteadySockTells self.old) (RecvMoves result buf.new (steady_sock_traffic self.old) (steady_sock_traffic self.new)) }
+        ensures moves { Observed (SteadySockTells self.new) (SteadySockTells self.old)
+            (RecvMoves result buf.new (steady_sock_traffic self.old) (steady_sock_traffic self.new)) }
         ensures bound { RecvBound result buf.new }
         ensures sends { ◌≡◌ {A = ℕ} 0 0 }
         ensures later { 0 ≤ 0 }

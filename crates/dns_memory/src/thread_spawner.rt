@@ -64,7 +64,8 @@ impl<W: Work> Spawner<W> for ThreadSpawner<W> {
     fn next(&mut self) -> Option<Started<W::Done>>
         ensures given { Observed ⊥ ⊥ (◌≡◌ {A = List SocketAddr} [] []) }
         ensures same { self.new.faults ≡ self.old.faults }
-        ensures one { MatchOption result ((vec_len self.old.threads.threads ≡ 0) × (vec_len self.new.threads.threads ≡ 0)) (λ _. vec_len self.new.threads.threads + 1 ≡ vec_len self.old.threads.threads) }
+        ensures one { MatchOption result ((vec_len self.old.threads.threads ≡ 0) × (vec_len self.new.threads.threads ≡ 0))
+            (λ _. vec_len self.new.threads.threads + 1 ≡ vec_len self.old.threads.threads) }
     {
         self.threads.next()
     }

@@ -1,4 +1,5 @@
--- When questions, data and records are equal: names up to ASCII case (RFC 4343, section 3), and records without their TTL (RFC 2136, section 1.1.1).
+-- When questions, data and records are equal: names up to ASCII case (RFC 4343, section 3), and records without their TTL (RFC
+-- 2136, section 1.1.1).
 use Rattle.std.specs.Prelude.{ℕ, Bool, ◌==◌, ◌&&◌, List, [], ◌∷◌}
 use Rattle.std.specs.Cmp.{IsEquivalence, and_equiv, on_equiv, nat_eq_equiv}
 use Rattle.std.specs.Cmp.Lexicographic.{pointwise, lists_equiv}
@@ -26,17 +27,22 @@ data_parts (Unknown t o) = (9, t ∷ o, [])
 
 -- the same variant, the same numbers or octets, the same names
 abbrev pub same_data : RecordData → RecordData → Bool
-same_data a b = ((data_parts a).0 == (data_parts b).0) && (pointwise ◌==◌ (data_parts a).1 (data_parts b).1 && pointwise same_name (data_parts a).2 (data_parts b).2)
+same_data a b = ((data_parts a).0 == (data_parts b).0)
+    && (pointwise ◌==◌ (data_parts a).1 (data_parts b).1 && pointwise same_name (data_parts a).2 (data_parts b).2)
 
 -- owner, class, and type and data
 abbrev pub same_record : Record → Record → Bool
 same_record a b = same_name a.owner b.owner && ((a.class == b.class) && same_data a.rdata b.rdata)
 
 pub same_question_equiv : IsEquivalence same_question
-same_question_equiv = and_equiv (on_equiv (λ (q : Question). q.qname) same_name_equiv) (and_equiv (on_equiv (λ (q : Question). q.qtype) nat_eq_equiv) (on_equiv (λ (q : Question). q.qclass) nat_eq_equiv))
+same_question_equiv = and_equiv (on_equiv (λ (q : Question). q.qname) same_name_equiv)
+    (and_equiv (on_equiv (λ (q : Question). q.qtype) nat_eq_equiv) (on_equiv (λ (q : Question). q.qclass) nat_eq_equiv))
 
 pub same_data_equiv : IsEquivalence same_data
-same_data_equiv = and_equiv (on_equiv (λ (d : RecordData). (data_parts d).0) nat_eq_equiv) (and_equiv (on_equiv (λ (d : RecordData). (data_parts d).1) (lists_equiv nat_eq_equiv)) (on_equiv (λ (d : RecordData). (data_parts d).2) (lists_equiv same_name_equiv)))
+same_data_equiv = and_equiv (on_equiv (λ (d : RecordData). (data_parts d).0) nat_eq_equiv)
+    (and_equiv (on_equiv (λ (d : RecordData). (data_parts d).1) (lists_equiv nat_eq_equiv))
+    (on_equiv (λ (d : RecordData). (data_parts d).2) (lists_equiv same_name_equiv)))
 
 pub same_record_equiv : IsEquivalence same_record
-same_record_equiv = and_equiv (on_equiv (λ (r : Record). r.owner) same_name_equiv) (and_equiv (on_equiv (λ (r : Record). r.class) nat_eq_equiv) (on_equiv (λ (r : Record). r.rdata) same_data_equiv))
+same_record_equiv = and_equiv (on_equiv (λ (r : Record). r.owner) same_name_equiv)
+    (and_equiv (on_equiv (λ (r : Record). r.class) nat_eq_equiv) (on_equiv (λ (r : Record). r.rdata) same_data_equiv))

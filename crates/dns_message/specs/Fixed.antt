@@ -1,4 +1,5 @@
--- What stands between the owner and the data of a record (RFC 1035, section 3.2.1): its type, its class, its TTL and how many octets its data takes.
+-- What stands between the owner and the data of a record (RFC 1035, section 3.2.1): its type, its class, its TTL and how many
+-- octets its data takes.
 use Rattle.std.specs.Prelude.{ℕ, List, ◌++◌, length, Ok}
 use Rattle.dns_name.specs.Place.{Read, two, four}
 use Rattle.dns_message.specs.declared.fixed.FixedFields.{FixedFields}

@@ -1,4 +1,5 @@
--- The header of a message (RFC 1035, section 4.1.1; RFC 4035, section 3.2, for AD and CD): an identifier of 16 bits, and two octets of flags and codes.
+-- The header of a message (RFC 1035, section 4.1.1; RFC 4035, section 3.2, for AD and CD): an identifier of 16 bits, and two octets
+-- of flags and codes.
 use Rattle.std.specs.Prelude.{ℕ, ◌+◌, ◌*◌, ◌/◌, ◌%◌, ◌<◌, ◌==◌, Bool, List, [], ◌∷◌, if◌then◌else◌}
 use Rattle.dns_message.specs.declared.header.Header.{Header}
 

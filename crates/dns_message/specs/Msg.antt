@@ -24,7 +24,12 @@ pub record Msg : Type 0 where
 
 -- how many items each section has
 abbrev pub item_counts : Msg → HeaderCounts
-item_counts m = record { qdcount = length m.questions; ancount = length m.answers; nscount = length m.authority; arcount = length m.additional }
+item_counts m = record {
+  qdcount = length m.questions;
+  ancount = length m.answers;
+  nscount = length m.authority;
+  arcount = length m.additional;
+}
 
 abbrev pub HasName : Question → Type 0
 HasName q = IsName q.qname

@@ -13,7 +13,10 @@ use Rattle.dns_message.specs.Options.{IsOptionList, options}
 
 -- NS, MD, MF, CNAME, MB, MG, MR, PTR and DNAME
 abbrev pub is_one_name : ℕ → Bool
-is_one_name t = if nat_eq t 2 then true else (if nat_eq t 3 then true else (if nat_eq t 4 then true else (if nat_eq t 5 then true else (if nat_eq t 7 then true else (if nat_eq t 8 then true else (if nat_eq t 9 then true else (if nat_eq t 12 then true else nat_eq t 39)))))))
+is_one_name t = if nat_eq t 2 then true else (if nat_eq t 3 then true
+    else (if nat_eq t 4 then true else (if nat_eq t 5 then true
+    else (if nat_eq t 7 then true else (if nat_eq t 8 then true
+    else (if nat_eq t 9 then true else (if nat_eq t 12 then true else nat_eq t 39)))))))
 
 -- the shape of a type's data
 abbrev pub shape_of : ℕ → Shape

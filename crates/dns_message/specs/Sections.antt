@@ -65,7 +65,13 @@ standing_additional o = items_behind (standing_at o) (field 10 o) (authority_of 
 
 -- the message that octets are, as far as it is readable
 unfoldable pub message_of : List ℕ → Msg
-message_of o = record { header = header_of o; questions = (questions_of o).0; answers = (answers_of o).0; authority = (authority_of o).0; additional = (additional_of o).0 }
+message_of o = record {
+  header = header_of o;
+  questions = (questions_of o).0;
+  answers = (answers_of o).0;
+  authority = (authority_of o).0;
+  additional = (additional_of o).0;
+}
 
 -- the same records, each as it stands or with its data as octets, and the same end
 pub record SameRecords (i : Items Standing) (j : Items ResourceRecord) : Type 0 where
@@ -84,11 +90,18 @@ reached (Err e) items = Err e
 
 -- what is given of the questions and of the answer, authority and additional records
 abbrev pub FourSections : Type 0
-FourSections = List (Result Question ParseError) × List (Result Standing ParseError) × List (Result Standing ParseError) × List (Result Standing ParseError)
+FourSections = List (Result Question ParseError) × List (Result Standing ParseError) × List (Result Standing ParseError)
+    × List (Result Standing ParseError)
 
 -- the four sections where the last one is reached, else the refusal of the section before it
 abbrev pub sections_by : List ℕ → Result ℕ ParseError → Result FourSections ParseError
-sections_by o (Ok at) = Ok (all_of (questions_of o), all_of (standing_answers o), all_of (standing_authority o), all_of (standing_additional o))
+sections_by o (Ok at) = Ok (
+  all_of (questions_of o),
+  all_of (standing_answers o),
+  all_of (standing_authority o),
+  all_of
+      (standing_additional o),
+)
 sections_by o (Err e) = Err e
 
 abbrev pub sections_of : List ℕ → Result FourSections ParseError

@@ -114,7 +114,19 @@ standing_at o at = do
   owner ← name_at o at
   fixed ← fixed_at o owner.1
   octets ← octets_at fixed.0.size o fixed.1
-  Ok (record { resource = record { owner = owner.0; rtype = fixed.0.rtype; class = fixed.0.class; ttl = fixed.0.ttl; rdata = octets.0 }; content = data_at fixed.0.rtype o octets.1 fixed.1 }, octets.1)
+  Ok (
+    record {
+      resource = record {
+        owner = owner.0;
+        rtype = fixed.0.rtype;
+        class = fixed.0.class;
+        ttl = fixed.0.ttl;
+        rdata = octets.0;
+      };
+      content = data_at fixed.0.rtype o octets.1 fixed.1;
+    },
+    octets.1,
+  )
 
 -- a record, its data not looked into
 unfoldable pub record_at : List ℕ → ℕ → Read ResourceRecord

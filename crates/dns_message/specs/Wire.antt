@@ -17,7 +17,8 @@ abbrev pub counts : Msg → List ℕ
 counts m = two (length m.questions) ++ (two (length m.answers) ++ (two (length m.authority) ++ two (length m.additional)))
 
 abbrev pub body : Msg → List ℕ
-body m = flat_map question_octets m.questions ++ (flat_map record_octets m.answers ++ (flat_map record_octets m.authority ++ flat_map record_octets m.additional))
+body m = flat_map question_octets m.questions
+    ++ (flat_map record_octets m.answers ++ (flat_map record_octets m.authority ++ flat_map record_octets m.additional))
 
 -- the octets of a message
 unfoldable pub wire : Msg → List ℕ

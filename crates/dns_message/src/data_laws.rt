@@ -17,12 +17,14 @@ use dns_name::Name;
 pub fn typed_records_read_back()
     ensures answers { (m : Msg) → IsMessage m → ReadsBack m.answers (reached (questions_of (wire m)).1 (standing_answers (wire m))) }
     ensures authority { (m : Msg) → IsMessage m → ReadsBack m.authority (reached (answers_of (wire m)).1 (standing_authority (wire m))) }
-    ensures additional { (m : Msg) → IsMessage m → ReadsBack m.additional (reached (authority_of (wire m)).1 (standing_additional (wire m))) }
+    ensures additional { (m : Msg) → IsMessage m
+        → ReadsBack m.additional (reached (authority_of (wire m)).1 (standing_additional (wire m))) }
 {}
 
 /// Typed data that stands in octets is read back there, whatever stands before and behind it.
 pub fn typed_data_reads_back()
-    ensures { (d : RecordData) (before behind : List ℕ) → IsTyped d → data_at (data_type d) (before ++ (data_octets d ++ behind)) (length before + length (data_octets d)) (length before) ≡ Ok d }
+    ensures { (d : RecordData) (before behind : List ℕ) → IsTyped d
+        → data_at (data_type d) (before ++ (data_octets d ++ behind)) (length before + length (data_octets d)) (length before) ≡ Ok d }
 {}
 
 /// The names in data are names, so that lawful data is read back.

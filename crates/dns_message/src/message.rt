@@ -54,7 +54,8 @@ impl<'a> Model for MessageRef<'a> {
 impl Message {
     /// Refused exactly below 12 octets. The vector is not copied.
     pub fn from_octets(octets: Vec<u8>) -> Result<Message, ParseError>
-        ensures { MatchResult result (λ m. (m ≡ octets.items) × (12 ≤ length octets.items)) (λ e. (e ≡ ParseError.ShortInput) × (length octets.items < 12)) }
+        ensures { MatchResult result (λ m. (m ≡ octets.items) × (12 ≤ length octets.items))
+            (λ e. (e ≡ ParseError.ShortInput) × (length octets.items < 12)) }
     {
         if octets.len() < 12 {
             return Err(ParseError::ShortInput);
@@ -169,7 +170,8 @@ impl<'a> Clone for MessageRef<'a> {
 impl<'a> MessageRef<'a> {
     /// Refused exactly below 12 octets.
     pub fn from_slice(octets: &'a [u8]) -> Result<MessageRef<'a>, ParseError>
-        ensures { MatchResult result (λ m. (m ≡ octets.now) × (12 ≤ length octets.now)) (λ e. (e ≡ ParseError.ShortInput) × (length octets.now < 12)) }
+        ensures { MatchResult result (λ m. (m ≡ octets.now) × (12 ≤ length octets.now))
+            (λ e. (e ≡ ParseError.ShortInput) × (length octets.now < 12)) }
     {
         if octets.len() < 12 {
             return Err(ParseError::ShortInput);

@@ -6,7 +6,8 @@ ghost use Rattle.dns_message.specs.Options.{first_option, options};
 /// The first option of a list (RFC 6891, section 6.1.2): its code, its data and what follows it; none where the
 /// octets don't begin with a whole option.
 pub fn first_option(octets: &[u8]) -> Option<(u16, &[u8], &[u8])>
-    ensures { MatchOption result (first_option octets.now ≡ None) (λ p. (length p.2.now < length octets.now) × (first_option octets.now ≡ Some (p.0, p.1.now, p.2.now))) }
+    ensures { MatchOption result (first_option octets.now ≡ None)
+        (λ p. (length p.2.now < length octets.now) × (first_option octets.now ≡ Some (p.0, p.1.now, p.2.now))) }
 {
     let [a, b, c, d, rest @ ..] = octets else {
         return None;

@@ -228,7 +228,8 @@ impl RecordData {
     /// The names and the numbers of data that is the start of a zone.
     pub(crate) fn zone_start(&self) -> (&Name, &Name, ZoneNumbers)
         requires { (data_parts self.now).0 ≡ 4 }
-        ensures { self.now ≡ RecordData.Soa result.0.now result.1.now result.2.serial result.2.refresh result.2.retry result.2.expire result.2.minimum }
+        ensures { self.now ≡ RecordData.Soa result.0.now result.1.now result.2.serial result.2.refresh result.2.retry
+            result.2.expire result.2.minimum }
     {
         match self {
             RecordData::Soa {

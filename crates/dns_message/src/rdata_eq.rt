@@ -87,7 +87,8 @@ fn is_named(rdata: &RecordData, rtype: Rtype, name: &Name) -> bool
 }
 
 fn is_soa(rdata: &RecordData, mname: &Name, rname: &Name, numbers: ZoneNumbers) -> bool
-    ensures { result ≡ same_data (RecordData.Soa mname.now rname.now numbers.serial numbers.refresh numbers.retry numbers.expire numbers.minimum) rdata.now }
+    ensures { result ≡ same_data (RecordData.Soa mname.now rname.now numbers.serial numbers.refresh numbers.retry numbers.expire
+        numbers.minimum) rdata.now }
 {
     match rdata {
         RecordData::Soa { .. } => {

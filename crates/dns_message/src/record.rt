@@ -129,7 +129,16 @@ impl<'a> Model for RecordRef<'a> {
 
     ghost Value = { Standing };
 
-    ghost view = { λ r. record { resource = record { owner = r.owner; rtype = r.rtype; class = r.class; ttl = r.ttl; rdata = r.rdata.now }; content = data_at r.rtype r.message.now r.end r.start } };
+    ghost view = { λ r. record {
+      resource = record {
+        owner = r.owner;
+        rtype = r.rtype;
+        class = r.class;
+        ttl = r.ttl;
+        rdata = r.rdata.now;
+      };
+      content = data_at r.rtype r.message.now r.end r.start;
+    } };
 
     ghost invariant = { λ r. (r.start ≤ r.end) × (r.end ≤ length r.message.now) × (r.end ≤ r.start + 65535) };
 }

@@ -61,7 +61,8 @@ pub(crate) fn push_zone(target: &mut Vec<u8>, numbers: ZoneNumbers) -> Result<()
 
 /// Appends the times, or some of their octets.
 fn push_times(target: &mut Vec<u8>, numbers: ZoneNumbers) -> Result<(), OutOfMemory>
-    ensures ok { OnOk result (target.new.items ≡ target.old.items ++ (four numbers.refresh ++ (four numbers.retry ++ (four numbers.expire ++ four numbers.minimum)))) }
+    ensures ok { OnOk result (target.new.items
+        ≡ target.old.items ++ (four numbers.refresh ++ (four numbers.retry ++ (four numbers.expire ++ four numbers.minimum)))) }
     ensures err { OnErr result (take (length target.old.items) target.new.items ≡ target.old.items) }
 {
     push_four(target, numbers.refresh.as_secs())?;

@@ -32,14 +32,17 @@ abbrev pub flag : Bool → List ℕ → List ℕ
 flag b name = if b then 32 ∷ name else []
 
 abbrev pub flags_text : Header → List ℕ
-flags_text h = flag h.qr (codes "qr") ++ (flag h.aa (codes "aa") ++ (flag h.tc (codes "tc") ++ (flag h.rd (codes "rd") ++ (flag h.ra (codes "ra") ++ (flag h.ad (codes "ad") ++ flag h.cd (codes "cd"))))))
+flags_text h = flag h.qr (codes "qr") ++ (flag h.aa (codes "aa")
+    ++ (flag h.tc (codes "tc") ++ (flag h.rd (codes "rd")
+    ++ (flag h.ra (codes "ra") ++ (flag h.ad (codes "ad") ++ flag h.cd (codes "cd"))))))
 
 -- a word behind what it is
 unfoldable pub labelled : List ℕ → List ℕ → List ℕ
 labelled label word = label ++ word
 
 abbrev pub codes_text : Header → List ℕ
-codes_text h = labelled (codes ";; ->>HEADER<<- opcode: ") (opcode_word h.opcode) ++ (labelled (codes ", status: ") (rcode_word h.rcode) ++ (labelled (codes ", id: ") (decimal h.id) ++ 10 ∷ []))
+codes_text h = labelled (codes ";; ->>HEADER<<- opcode: ") (opcode_word h.opcode)
+    ++ (labelled (codes ", status: ") (rcode_word h.rcode) ++ (labelled (codes ", id: ") (decimal h.id) ++ 10 ∷ []))
 
 abbrev pub counts_text : HeaderCounts → List ℕ
 counts_text c =
@@ -83,7 +86,9 @@ unfoldable pub records_text : ℕ → List ℕ → List (Result Standing ParseEr
 records_text n title items = title_text n title ++ flat_map record_item items
 
 abbrev pub four_sections : HeaderCounts → FourSections → List ℕ
-four_sections c s = questions_text c.qdcount s.0 ++ (records_text c.ancount (codes "ANSWER") s.1 ++ (records_text c.nscount (codes "AUTHORITY") s.2 ++ records_text c.arcount (codes "ADDITIONAL") s.3))
+four_sections c s = questions_text c.qdcount s.0
+    ++ (records_text c.ancount (codes "ANSWER") s.1
+    ++ (records_text c.nscount (codes "AUTHORITY") s.2 ++ records_text c.arcount (codes "ADDITIONAL") s.3))
 
 -- the sections, or why the last isn't reached
 unfoldable pub sections_text : HeaderCounts → Result FourSections ParseError → List ℕ

@@ -24,7 +24,8 @@ abbrev pub IsResponseTo : {Meta : Type 0} → Req Meta → Msg → Type 0
 IsResponseTo r m = (m.header.id ≡ (header_of r.octets).id) × (m.header.qr ≡ true)
 
 abbrev pub RepliesFit : Type 0
-RepliesFit = (s : Settings) (svc : Req (Unit {0}) → ℕ → Answer) (tgt : Notice → ℕ → PolledVerdict) (r : Req (Unit {0})) (k : ℕ) (hint : Option ℕ)
+RepliesFit = (s : Settings) (svc : Req (Unit {0}) → ℕ → Answer) (tgt : Notice → ℕ → PolledVerdict) (r : Req (Unit {0})) (k : ℕ)
+    (hint : Option ℕ)
     → r.transport ≡ Udp hint → ReplyHas (λ m. length (wire m) ≤ request_limit s r) (replies s svc tgt r k)
 
 abbrev pub RepliesRespond : Type 0

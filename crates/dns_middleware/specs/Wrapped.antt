@@ -65,7 +65,8 @@ abbrev pub inner_post : {Meta : Type 0} → Settings → ℕ → Req Meta → Ms
 inner_post s n r m = mand_post n r (if s.edns then edns_post r m else m)
 
 -- answer k to a request that is taken like this
-abbrev pub by_gate : {Meta : Type 0} → Settings → (Req Meta → ℕ → Answer) → (Notice → ℕ → PolledVerdict) → ℕ → Req Meta → Gate Meta → ℕ → Answer
+abbrev pub by_gate : {Meta : Type 0} → Settings → (Req Meta → ℕ → Answer) → (Notice → ℕ → PolledVerdict) → ℕ → Req Meta → Gate Meta
+    → ℕ → Answer
 by_gate s svc tgt n r (Outer m) k = own_reply (mand_post n r m) k
 by_gate s svc tgt n r (Inner m) k = own_reply (inner_post s n r m) k
 by_gate s svc tgt n r (Ask notice) k = mapped (rewritten (inner_post s n r)) (asking r.octets (tgt notice) k)

@@ -33,12 +33,14 @@ refused_reply p o (ByMandatory code) = mand_by p.mandatory (error_reply o code)
 refused_reply p o (ByEdns code) = wrap_by p (error_reply o code)
 
 -- a reply of its own and a target's are there at once, and the given service's as its future gives them
-abbrev pub future_answer : {F V : Type 0} → (Once → ℕ → Answer) → (F → ℕ → Answer) → (V → ℕ → PolledVerdict) → WrappedFuture F V → ℕ → Answer
+abbrev pub future_answer : {F V : Type 0} → (Once → ℕ → Answer) → (F → ℕ → Answer) → (V → ℕ → PolledVerdict) → WrappedFuture F V → ℕ
+    → Answer
 future_answer o f v (Coming.Own stream) k = now_of o stream k
 future_answer o f v (Coming.Asking stream post) k = mapped (rewritten (wrap_by post)) (now_of (ask_answer v) stream k)
 future_answer o f v (Coming.Passing future post) k = mapped (rewritten (wrap_by post)) (f future k)
 
-abbrev pub wrapped_answer : {R V : Type 0} → (Once → ℕ → Answer) → (R → ℕ → Answer) → (V → ℕ → PolledVerdict) → WrappedStream R V → ℕ → Answer
+abbrev pub wrapped_answer : {R V : Type 0} → (Once → ℕ → Answer) → (R → ℕ → Answer) → (V → ℕ → PolledVerdict) → WrappedStream R V
+    → ℕ → Answer
 wrapped_answer o r v (Own stream) k = o stream k
 wrapped_answer o r v (Asking stream post) k = mapped (rewritten (wrap_by post)) (ask_answer v stream k)
 wrapped_answer o r v (Passed stream post) k = mapped (rewritten (wrap_by post)) (r stream k)

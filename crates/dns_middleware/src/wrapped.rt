@@ -102,7 +102,8 @@ where
     S: Service<()>,
     N: Notifiable,
     ensures can_call { IfOk result (λ w. S.can_call service → ⟦<Wrapped<S, N> as Service<()>>⟧.can_call w) }
-    ensures replies { IfOk result (λ w. ⟦<Wrapped<S, N> as Service<()>>⟧.answer w ≡ replies settings.now (S.answer service) (verdict_on (N.verdict target))) }
+    ensures replies { IfOk result (λ w. ⟦<Wrapped<S, N> as Service<()>>⟧.answer w
+        ≡ replies settings.now (S.answer service) (verdict_on (N.verdict target))) }
     ensures hint { IfOk result (λ w. ⟦<Wrapped<S, N> as Service<()>>⟧.hint w ≡ hint_left settings.now) }
 {
     let wrapped = Wrapped::new(alloc, settings, service, target)?;

@@ -50,8 +50,10 @@ fn take_own<R, V>(own: &mut Option<Once>) -> Polled<WrappedStream<R, V>>
 where
     R: ReplyStream,
     V: VerdictFuture,
-    ensures pending { let answer = ⟦<Once as ReplyStream>⟧.answer in IfPending (now_of answer own.old 0 ≡ Polled.Pending × ((k : ℕ) → now_of answer own.new k ≡ now_of answer own.old (suc k))) result }
-    ensures ready { IfReady (λ s. (k : ℕ) → ⟦<WrappedStream<R, V> as ReplyStream>⟧.answer s k ≡ now_of ⟦<Once as ReplyStream>⟧.answer own.old k) result }
+    ensures pending { let answer = ⟦<Once as ReplyStream>⟧.answer in IfPending
+        (now_of answer own.old 0 ≡ Polled.Pending × ((k : ℕ) → now_of answer own.new k ≡ now_of answer own.old (suc k))) result }
+    ensures ready { IfReady (λ s. (k : ℕ) → ⟦<WrappedStream<R, V> as ReplyStream>⟧.answer s k
+        ≡ now_of ⟦<Once as ReplyStream>⟧.answer own.old k) result }
 {
     match own.take() {
         Some(stream) => Polled::Ready(WrappedStream::Own(stream)),
@@ -68,8 +70,10 @@ fn poll_passing<F, V>(
 where
     F: ReplyFuture,
     V: VerdictFuture,
-    ensures pending { IfOk result (IfPending (F.answer future.old 0 ≡ Polled.Pending × ((k : ℕ) → F.answer future.new k ≡ F.answer future.old (suc k)))) }
-    ensures ready { IfOk result (IfReady (λ s. (k : ℕ) → ⟦<WrappedStream<F::Stream, V> as ReplyStream>⟧.answer s k ≡ mapped (rewritten (wrap_by post)) (F.answer future.old k))) }
+    ensures pending { IfOk result (IfPending
+        (F.answer future.old 0 ≡ Polled.Pending × ((k : ℕ) → F.answer future.new k ≡ F.answer future.old (suc k)))) }
+    ensures ready { IfOk result (IfReady (λ s. (k : ℕ)
+        → ⟦<WrappedStream<F::Stream, V> as ReplyStream>⟧.answer s k ≡ mapped (rewritten (wrap_by post)) (F.answer future.old k))) }
 {
     match future.poll(alloc)? {
         Polled::Ready(stream) => Ok(Polled::Ready(WrappedStream::Passed(stream, post))),

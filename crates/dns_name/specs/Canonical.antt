@@ -47,7 +47,8 @@ turned xs ys =
 
 -- names are the same exactly where neither comes first
 pub same_name_ties : (a b : List (List ℕ)) → same_name a b ≡ eq_by_cmp name_cmp a b
-same_name_ties a b = turned (folded a) (folded b) ∙ lists_ties (slice_cmp nat_cmp) (lists_ties nat_cmp unsigned_ties) (from_last a) (from_last b)
+same_name_ties a b = turned (folded a) (folded b) ∙ lists_ties (slice_cmp nat_cmp) (lists_ties nat_cmp unsigned_ties) (from_last a)
+    (from_last b)
 
 -- the canonical order leaves no two names without an answer
 pub same_name_order : IsPartialOrder same_name (as_partial_cmp name_cmp)

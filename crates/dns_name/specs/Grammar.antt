@@ -6,8 +6,11 @@ use Rattle.dns_name.specs.Labels.{spell, IsName}
 -- A pointer's head has its two top bits set, and its target is any earlier place of the octets.
 pub data NameStands (o : List ℕ) : ℕ → ℕ → List (List ℕ) → ℕ → ℕ → Type 0 where
   root : (limit at : ℕ) (more : List ℕ) → drop at (take limit o) ≡ 0 ∷ more → NameStands o limit at [] 0 (at + 1)
-  label : (limit at h end : ℕ) (l more : List ℕ) (ls : List (List ℕ)) → 0 < length l → length l < 64 → drop at (take limit o) ≡ length l ∷ (l ++ more) → NameStands o limit (at + length l + 1) ls h end → NameStands o limit at (l ∷ ls) h end
-  pointer : (limit at h end high low : ℕ) (more : List ℕ) (ls : List (List ℕ)) → drop at (take limit o) ≡ (192 + high) ∷ low ∷ more → 256 * high + low < at → NameStands o (length o) (256 * high + low) ls h end → NameStands o limit at ls (h + 1) (at + 2)
+  label : (limit at h end : ℕ) (l more : List ℕ) (ls : List (List ℕ)) → 0 < length l → length l < 64
+      → drop at (take limit o) ≡ length l ∷ (l ++ more) → NameStands o limit (at + length l + 1) ls h end
+      → NameStands o limit at (l ∷ ls) h end
+  pointer : (limit at h end high low : ℕ) (more : List ℕ) (ls : List (List ℕ)) → drop at (take limit o) ≡ (192 + high) ∷ low ∷ more
+      → 256 * high + low < at → NameStands o (length o) (256 * high + low) ls h end → NameStands o limit at ls (h + 1) (at + 2)
 
 -- such a name within the bounds, where size octets and hops pointers came before
 pub record Found (o : List ℕ) (limit at size hops : ℕ) (ls : List (List ℕ)) (end : ℕ) : Type 0 where

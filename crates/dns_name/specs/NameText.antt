@@ -12,7 +12,8 @@ abbrev pub digits_text : ℕ → List ℕ
 digits_text n = 92 ∷ (decimal (n / 100) ++ (decimal (n / 10 % 10) ++ decimal (n % 10)))
 
 abbrev pub octet_text : ℕ → List ℕ
-octet_text b = if is_quoted b then 92 ∷ encode_utf8 b else (if nat_lt 32 b then (if nat_lt b 127 then encode_utf8 b else digits_text b) else digits_text b)
+octet_text b = if is_quoted b then 92 ∷ encode_utf8 b
+    else (if nat_lt 32 b then (if nat_lt b 127 then encode_utf8 b else digits_text b) else digits_text b)
 
 abbrev pub label_text : List ℕ → List ℕ
 label_text l = flat_map octet_text l

@@ -50,7 +50,8 @@ with_end n (Err e) = Err e
 abbrev pub by_piece : (ℕ → ℕ → ℕ → Read (List (List ℕ))) → List ℕ → ℕ → ℕ → ℕ → Result Piece ParseError → Read (List (List ℕ))
 by_piece go o at size hops (Err e) = Err e
 by_piece go o at size hops (Ok End) = Ok ([], at + 1)
-by_piece go o at size hops (Ok (Text n)) = if nat_lt 255 (size + n + 2) then Err (Form LongName) else with_label (take n (drop (at + 1) o)) (go (at + n + 1) (size + n + 1) hops)
+by_piece go o at size hops (Ok (Text n))
+    = if nat_lt 255 (size + n + 2) then Err (Form LongName) else with_label (take n (drop (at + 1) o)) (go (at + n + 1) (size + n + 1) hops)
 by_piece go o at size hops (Ok (Jump target)) = if nat_lt 254 hops then Err (Form Hops) else with_end (at + 2) (go target size (hops + 1))
 
 -- a name of at most k pieces

@@ -22,7 +22,8 @@ entries_in = map (λ e. (e.0, e.1.now))
 abbrev pub entries : Registry → List Entry
 entries Classes = entries_in CLASSES.now
 entries Rtypes =
-    entries_in TYPES.now ++ entries_in TYPES_FROM_17.now ++ entries_in TYPES_FROM_33.now ++ entries_in TYPES_FROM_49.now ++ entries_in TYPES_FROM_66.now
+    entries_in TYPES.now ++ entries_in TYPES_FROM_17.now ++ entries_in TYPES_FROM_33.now ++ entries_in TYPES_FROM_49.now
+    ++ entries_in TYPES_FROM_66.now
     ++ entries_in TYPES_FROM_128.now ++ entries_in TYPES_FROM_258.now
 entries OptionCodes = entries_in OPTIONS.now ++ entries_in OPTIONS_FROM_15.now
 entries ErrorCodes = entries_in ERRORS.now ++ entries_in ERRORS_FROM_16.now

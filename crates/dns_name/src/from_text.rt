@@ -91,7 +91,8 @@ pub(crate) fn name_in(alloc: Global, text: &[u8]) -> Result<Vec<u8>, FromTextErr
 
 /// The octets of the labels of a text, without the root's.
 fn labels_in(alloc: Global, text: &[u8]) -> Result<Vec<u8>, FromTextError>
-    ensures { MatchResult result (λ octets. Spells (text_labels text.now) (octets.items ++ (0 ∷ []))) (λ e. IsRefusal e (text_labels text.now)) }
+    ensures { MatchResult result (λ octets. Spells (text_labels text.now) (octets.items ++ (0 ∷ [])))
+        (λ e. IsRefusal e (text_labels text.now)) }
 {
     let mut octets = Vec::new(alloc);
     let mut label = Vec::new(alloc);
@@ -113,7 +114,9 @@ fn push_label<'a>(
     octets: &mut Vec<u8>,
 ) -> Result<&'a [u8], FromTextError>
     requires { length octets.old.items < 255 }
-    ensures { MatchResult result (λ rest. Appends (first_label (length octets.old.items) text.now) octets.old.items octets.new.items rest.now) (λ e. IsRefusal e (first_label (length octets.old.items) text.now)) }
+    ensures { MatchResult result (λ rest. Appends
+        (first_label (length octets.old.items) text.now) octets.old.items octets.new.items rest.now)
+        (λ e. IsRefusal e (first_label (length octets.old.items) text.now)) }
 {
     label.clear();
     let rest = fill_label(text, label)?;
@@ -130,7 +133,8 @@ fn push_label<'a>(
 /// Appends the octets of the label that a text begins with to none, and gives the text behind it.
 fn fill_label<'a>(text: &'a [u8], label: &mut Vec<u8>) -> Result<&'a [u8], FromTextError>
     requires { label.old.items ≡ [] }
-    ensures { MatchResult result (λ rest. label_octets text.now ≡ Ok (label.new.items, rest.now)) (λ e. IsRefusal e (label_octets text.now)) }
+    ensures { MatchResult result (λ rest. label_octets text.now ≡ Ok (label.new.items, rest.now))
+        (λ e. IsRefusal e (label_octets text.now)) }
 {
     let mut rest = text;
     'octets: loop {

@@ -16,8 +16,10 @@ use crate::name::NameRef;
 
 /// A name is read at a place exactly where the grammar has one.
 pub fn names_are_the_grammar()
-    ensures compressed { (o : List ℕ) (limit at end : ℕ) (ls : List (List ℕ)) → Found o limit at 0 0 ls end ↔ (name_within o limit at ≡ Ok (ls, end)) }
-    ensures uncompressed { (o : List ℕ) (at end : ℕ) (ls : List (List ℕ)) → StandsPlain o at ls end ↔ (uncompressed_at o at ≡ Ok (ls, end)) }
+    ensures compressed { (o : List ℕ) (limit at end : ℕ) (ls : List (List ℕ))
+        → Found o limit at 0 0 ls end ↔ (name_within o limit at ≡ Ok (ls, end)) }
+    ensures uncompressed { (o : List ℕ) (at end : ℕ) (ls : List (List ℕ))
+        → StandsPlain o at ls end ↔ (uncompressed_at o at ≡ Ok (ls, end)) }
 {}
 
 /// The canonical order of names is total, and neither of two names comes first exactly where they are the same up

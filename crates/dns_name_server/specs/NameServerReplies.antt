@@ -76,7 +76,8 @@ is_answered z seen name = ends_name name z.apex && not (list_any (same_name name
 -- the reply for a name that others led to, of which so many more at most are asked for
 unfoldable pub reply_from : ZoneState → ℕ → ℕ → List (List (List ℕ)) → List (List ℕ) → ZoneReply
 reply_from z t zero seen name = authoritative []
-reply_from z t (suc k) seen name = if is_answered z seen name then by_region z (reply_from z t k (seen ++ name ∷ [])) t name (asked_region z t name) else authoritative []
+reply_from z t (suc k) seen name = if is_answered z seen name
+    then by_region z (reply_from z t k (seen ++ name ∷ [])) t name (asked_region z t name) else authoritative []
 
 -- a chain asks for 128 names at most: those that DNAME records make could go on for very long
 abbrev pub name_server_reply : ZoneState → Question → ZoneReply

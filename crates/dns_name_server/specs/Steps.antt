@@ -24,7 +24,13 @@ pub record WireReply : Type 0 where
   pub additional : List ResourceRecord
 
 abbrev pub wired : ZoneReply → WireReply
-wired r = record { aa = r.aa; rcode = r.rcode; answers = map record_of r.answers; authority = map record_of r.authority; additional = map record_of r.additional }
+wired r = record {
+  aa = r.aa;
+  rcode = r.rcode;
+  answers = map record_of r.answers;
+  authority = map record_of r.authority;
+  additional = map record_of r.additional;
+}
 
 abbrev pub are_any : List ResourceRecord → Bool
 are_any [] = false

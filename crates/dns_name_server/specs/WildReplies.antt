@@ -48,7 +48,8 @@ WildcardsAreStars = (z : ZoneState) → list_any has_star z.records ≡ false �
 
 -- a name that exists and is no alias has no wildcard's records (RFC 4592, section 2.2.1)
 abbrev pub ExistingNamesAreTheirOwn : Type 0
-ExistingNamesAreTheirOwn = (z : ZoneState) (q : Question) → exists z q.qname ≡ true → list_any (is_asked q.qname 5) z.records ≡ false → wild_reply z q ≡ zone_reply z q
+ExistingNamesAreTheirOwn = (z : ZoneState) (q : Question) → exists z q.qname ≡ true
+    → list_any (is_asked q.qname 5) z.records ≡ false → wild_reply z q ≡ zone_reply z q
 
 -- ---- where the reply of a name server is that
 
@@ -67,4 +68,5 @@ abbrev pub DirectRepliesAreWild : Type 0
 DirectRepliesAreWild = (z : ZoneState) (q : Question) → AreInZone z → IsDirect z q → name_server_reply z q ≡ wild_reply z q
 
 abbrev pub DirectRepliesAreTheZones : Type 0
-DirectRepliesAreTheZones = (z : ZoneState) (q : Question) → AreInZone z → IsDirect z q → HasNoWildcard z → name_server_reply z q ≡ zone_reply z q
+DirectRepliesAreTheZones = (z : ZoneState) (q : Question) → AreInZone z → IsDirect z q → HasNoWildcard z
+    → name_server_reply z q ≡ zone_reply z q

@@ -25,7 +25,8 @@ fn built(
     authority: &WireRecords,
     additional: &WireRecords,
 ) -> Result<AdditionalBuilder, PushError>
-    ensures { Builds (unlimited (wire_message query.now (record { aa = code.1; rcode = code.0; answers = answers.now; authority = authority.now; additional = additional.now }))) result }
+    ensures { Builds (unlimited (wire_message query.now
+        (record { aa = code.1; rcode = code.0; answers = answers.now; authority = authority.now; additional = additional.now }))) result }
 {
     let mut reply = begin_reply(alloc, query, code.0, code.1)?;
     reply.push_records(answers)?;
@@ -109,7 +110,8 @@ fn alone(
     rcode: Rcode,
     given: &WireRecords,
 ) -> Result<AdditionalBuilder, PushError>
-    ensures { Builds (unlimited (wire_message query.now (record { aa = true; rcode = rcode; answers = given.now; authority = []; additional = [] }))) result }
+    ensures { Builds (unlimited (wire_message query.now
+        (record { aa = true; rcode = rcode; answers = given.now; authority = []; additional = [] }))) result }
 {
     let none = WireRecords::new(alloc);
     built(alloc, query, (rcode, true), given, &none, &none)
@@ -123,7 +125,8 @@ fn referred(
     given: &WireRecords,
     cut: &Kinds,
 ) -> Result<AdditionalBuilder, PushError>
-    ensures { Builds (unlimited (wire_message query.now (behind given.now (wired (referral zone.now (at_places zone.now.records (kind_places 2 cut.now))))))) result }
+    ensures { Builds (unlimited (wire_message query.now
+        (behind given.now (wired (referral zone.now (at_places zone.now.records (kind_places 2 cut.now))))))) result }
 {
     let glue = zone.glue(alloc, cut)?;
     let mut authority = WireRecords::new(alloc);
@@ -188,7 +191,8 @@ fn found(
     kinds: &Kinds,
     rtype: u16,
 ) -> Result<AdditionalBuilder, PushError>
-    ensures { Builds (unlimited (wire_message query.now (behind given (wired (authoritative (at_places zone.now.records (kind_places rtype kinds.now))))))) result }
+    ensures { Builds (unlimited (wire_message query.now
+        (behind given (wired (authoritative (at_places zone.now.records (kind_places rtype kinds.now))))))) result }
 {
     let mut answers = given;
     add_kinds(alloc, zone.records(), kinds.as_slice(), rtype, &mut answers)?;

@@ -94,7 +94,8 @@ fn give_one(
     given: &mut WireRecords,
 ) -> Result<(), OutOfMemory>
     requires { AreLawful records.now }
-    ensures { OnOk result (given.new ≡ given.old ++ map record_of (map (given_as name.now) (at_places records.now (places_of rtype (kind.now ∷ []))))) }
+    ensures { OnOk result (given.new ≡ given.old
+        ++ map record_of (map (given_as name.now) (at_places records.now (places_of rtype (kind.now ∷ []))))) }
 {
     match kind.record(records, rtype) {
         Some(record) => {
@@ -116,7 +117,8 @@ fn give(
     given: &mut WireRecords,
 ) -> Result<(), OutOfMemory>
     requires { AreLawful records.now }
-    ensures { OnOk result (given.new ≡ given.old ++ map record_of (map (given_as name.now) (at_places records.now (places_of rtype kinds.now)))) }
+    ensures { OnOk result (given.new ≡ given.old
+        ++ map record_of (map (given_as name.now) (at_places records.now (places_of rtype kinds.now)))) }
 {
     'each: for kind in kinds {
         give_one(alloc, records, kind, rtype, name, given)?;
@@ -132,7 +134,9 @@ fn follow<'a>(
     given: &mut WireRecords,
 ) -> Result<Step<'a>, OutOfMemory>
     requires { IsLawful alias.now.rdata }
-    ensures { (z : ZoneState) → IfOk result (λ s. StepsTo z given.old given.new s (λ go. behind_alias (owned_by (option_copied owner.entry) alias.now) (gone_to go (target alias.now.rdata)))) }
+    ensures { (z : ZoneState) → IfOk result (λ s.
+        StepsTo z given.old given.new s (λ go. behind_alias (owned_by (option_copied owner.entry) alias.now)
+        (gone_to go (target alias.now.rdata)))) }
 {
     let copy = copied(alloc, alias, owner)?;
     given.push(alloc, &copy)?;
@@ -158,7 +162,8 @@ fn alias_in<'a>(zone: &'a ZoneTree, rtype: u16, kinds: &Kinds) -> Option<&'a Rec
 
 /// The records of a type of a name that exists.
 fn own_end<'a>(kinds: &'a Kinds, rtype: u16) -> End<'a>
-    ensures { (z : ZoneState) (name : List (List ℕ)) → ReachesNode z rtype name kinds.now → end_reply z result ≡ own_reply z (at_places z.records (kind_places rtype kinds.now)) }
+    ensures { (z : ZoneState) (name : List (List ℕ)) → ReachesNode z rtype name kinds.now
+        → end_reply z result ≡ own_reply z (at_places z.records (kind_places rtype kinds.now)) }
 {
     if kinds.has(rtype) {
         return End::Own(kinds, rtype);
@@ -174,7 +179,9 @@ fn at_node<'a>(
     kinds: &'a Kinds,
     given: &mut WireRecords,
 ) -> Result<Step<'a>, OutOfMemory>
-    ensures { (name : List (List ℕ)) → ReachesNode zone.now rtype name kinds.now → IfOk result (λ s. StepsTo zone.now given.old given.new s (λ go. by_region zone.now go rtype name (asked_region zone.now rtype name))) }
+    ensures { (name : List (List ℕ)) → ReachesNode zone.now rtype name kinds.now
+        → IfOk result (λ s. StepsTo zone.now given.old given.new s
+        (λ go. by_region zone.now go rtype name (asked_region zone.now rtype name))) }
 {
     match alias_in(zone, rtype, kinds) {
         Some(alias) => follow(alloc, alias, None, given),
@@ -191,7 +198,9 @@ fn give_kind<'a>(
     kinds: &Kinds,
     given: &mut WireRecords,
 ) -> Result<End<'a>, OutOfMemory>
-    ensures { IfOk result (λ e. behind given.new (wired (end_reply zone.now e)) ≡ behind given.old (wired (own_reply zone.now (map (given_as name.now) (at_places zone.now.records (kind_places rtype kinds.now)))))) }
+    ensures { IfOk result (λ e. behind given.new (wired (end_reply zone.now e))
+        ≡ behind given.old (wired (own_reply zone.now
+        (map (given_as name.now) (at_places zone.now.records (kind_places rtype kinds.now)))))) }
 {
     let start = given.len();
     give(alloc, zone.records(), kinds.as_slice(), rtype, name, given)?;
@@ -211,7 +220,9 @@ fn at_wildcard<'a>(
     kinds: &'a Kinds,
     given: &mut WireRecords,
 ) -> Result<Step<'a>, OutOfMemory>
-    ensures { (n : ℕ) → ReachesNone zone.now rtype name.now n → IsNode zone.now (wildcard zone.now name.now) (Some kinds.now) → IfOk result (λ s. StepsTo zone.now given.old given.new s (λ go. by_region zone.now go rtype name.now (asked_region zone.now rtype name.now))) }
+    ensures { (n : ℕ) → ReachesNone zone.now rtype name.now n → IsNode zone.now (wildcard zone.now name.now) (Some kinds.now)
+        → IfOk result (λ s. StepsTo zone.now given.old given.new s
+        (λ go. by_region zone.now go rtype name.now (asked_region zone.now rtype name.now))) }
 {
     match alias_in(zone, rtype, kinds) {
         Some(alias) => follow(alloc, alias, Some(name), given),
@@ -232,7 +243,8 @@ fn at_missing<'a>(
     given: &mut WireRecords,
 ) -> Result<Step<'a>, OutOfMemory>
     requires { ReachesNone zone.now rtype name.now skipped }
-    ensures { IfOk result (λ s. StepsTo zone.now given.old given.new s (λ go. by_region zone.now go rtype name.now (asked_region zone.now rtype name.now))) }
+    ensures { IfOk result (λ s. StepsTo zone.now given.old given.new s
+        (λ go. by_region zone.now go rtype name.now (asked_region zone.now rtype name.now))) }
 {
     let found = zone.wildcard(alloc, &name.behind(skipped))?;
     match found {
@@ -243,7 +255,8 @@ fn at_missing<'a>(
 
 /// The target of a CNAME record that is made of a DNAME record, where it is followed for a type.
 fn gone_to<'a>(rtype: u16, to: Name) -> Step<'a>
-    ensures { (z : ZoneState) (go : List (List ℕ) → ZoneReply) → step_reply z go result ≡ (if follows rtype then go to else authoritative []) }
+    ensures { (z : ZoneState) (go : List (List ℕ) → ZoneReply)
+        → step_reply z go result ≡ (if follows rtype then go to else authoritative []) }
 {
     if follows(rtype) {
         return Step::On(to);
@@ -283,7 +296,8 @@ fn substituted<'a>(
     target: &Name,
     given: &mut WireRecords,
 ) -> Result<Step<'a>, OutOfMemory>
-    ensures { (z : ZoneState) → IfOk result (λ s. StepsTo z given.old given.new s (λ go. by_target go rtype name.now dname.now (Some target.now))) }
+    ensures { (z : ZoneState) → IfOk result (λ s.
+        StepsTo z given.old given.new s (λ go. by_target go rtype name.now dname.now (Some target.now))) }
 {
     let count = name.label_count().saturating_sub(dname.owner.label_count());
     let front = front_of(alloc, name, count)?;
@@ -306,7 +320,8 @@ fn by_target<'a>(
     dname: &Record,
     given: &mut WireRecords,
 ) -> Result<Step<'a>, OutOfMemory>
-    ensures { (z : ZoneState) → IfOk result (λ s. StepsTo z given.old given.new s (λ go. by_target go rtype name.now dname.now (target dname.now.rdata))) }
+    ensures { (z : ZoneState) → IfOk result (λ s.
+        StepsTo z given.old given.new s (λ go. by_target go rtype name.now dname.now (target dname.now.rdata))) }
 {
     match record_target(dname) {
         Some(target) => substituted(alloc, rtype, name, dname, target, given),
@@ -323,7 +338,8 @@ fn give_dname<'a>(
     given: &mut WireRecords,
 ) -> Result<Step<'a>, OutOfMemory>
     requires { IsLawful dname.now.rdata }
-    ensures { (z : ZoneState) → IfOk result (λ s. StepsTo z given.old given.new s (λ go. behind_alias dname.now (by_target go rtype name.now dname.now (target dname.now.rdata)))) }
+    ensures { (z : ZoneState) → IfOk result (λ s.
+        StepsTo z given.old given.new s (λ go. behind_alias dname.now (by_target go rtype name.now dname.now (target dname.now.rdata)))) }
 {
     let copy = copied(alloc, dname, None)?;
     given.push(alloc, &copy)?;
@@ -339,7 +355,8 @@ fn at_dname<'a>(
     kinds: &Kinds,
     given: &mut WireRecords,
 ) -> Result<Step<'a>, OutOfMemory>
-    ensures { IfOk result (λ s. StepsTo zone.now given.old given.new s (λ go. by_dname go rtype name.now (at_places zone.now.records (kind_places 39 kinds.now)))) }
+    ensures { IfOk result (λ s. StepsTo zone.now given.old given.new s
+        (λ go. by_dname go rtype name.now (at_places zone.now.records (kind_places 39 kinds.now)))) }
 {
     match first_of(zone.records(), kinds.as_slice(), Rtype::DNAME.to_int()) {
         Some(dname) => give_dname(alloc, rtype, name, dname, given),
@@ -356,7 +373,8 @@ pub(crate) fn step_of<'a>(
     given: &mut WireRecords,
 ) -> Result<Step<'a>, OutOfMemory>
     requires { IsTrue (ends_name name.now zone.now.apex) }
-    ensures { IfOk result (λ s. StepsTo zone.now given.old given.new s (λ go. by_region zone.now go rtype name.now (asked_region zone.now rtype name.now))) }
+    ensures { IfOk result (λ s. StepsTo zone.now given.old given.new s
+        (λ go. by_region zone.now go rtype name.now (asked_region zone.now rtype name.now))) }
 {
     let found = zone.walk(alloc, name, rtype)?;
     match found {

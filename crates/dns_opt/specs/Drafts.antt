@@ -28,7 +28,8 @@ with_options d o = record { head = d.head; low = d.low; options = o; room = d.ro
 
 -- an option is pushed: refused LongOptData as into any list, then ShortBuf exactly where the message would pass its limit
 abbrev pub PushedIn : ℕ → List ℕ → OptDraft → OptDraft → Result ⊤ BuildDataError → Type 0
-PushedIn code d old new (Ok _) = Fits old.options (length d) × (length old.options + 4 + length d + 11 ≤ old.room) × (new ≡ with_options old (old.options ++ option_octets code d))
+PushedIn code d old new (Ok _) = Fits old.options (length d) × (length old.options + 4 + length d + 11 ≤ old.room)
+    × (new ≡ with_options old (old.options ++ option_octets code d))
 PushedIn code d old new (Err LongOptData) = (65535 < length old.options + 4 + length d) × (new ≡ old)
 PushedIn code d old new (Err ShortBuf) = Fits old.options (length d) × (old.room < length old.options + 4 + length d + 11) × (new ≡ old)
 PushedIn code d old new (Err NoMemory) = Fits old.options (length d) × (new ≡ old)
@@ -63,7 +64,8 @@ abbrev pub Ends : Result ⊤ BuildDataError → OptDraft → Built → Built →
 Ends answer d old new result = EndsIn answer d old old new result
 
 -- calls x r y says that the closure, at x, may answer r and leave y there
-pub record IsBuiltOpt (calls : OptDraft → Result ⊤ BuildDataError → OptDraft → Type 0) (old new : Built) (result : Result ⊤ BuildDataError) : Type 0 where
+pub record IsBuiltOpt (calls : OptDraft → Result ⊤ BuildDataError → OptDraft → Type 0) (old new : Built)
+    (result : Result ⊤ BuildDataError) : Type 0 where
   pub answer : Result ⊤ BuildDataError
   pub left : OptDraft
   pub met : calls (opened_opt old) answer left
@@ -79,7 +81,8 @@ BuiltOpt calls old new result = BuiltFitting (nat_le 11 (room_of old)) calls old
 
 -- head and options are those of another record; ShortBuf exactly where the message would pass its limit
 abbrev pub Cloned : OptState → OptDraft → OptDraft → Result ⊤ BuildDataError → Type 0
-Cloned s old new (Ok _) = (length s.options + 11 ≤ old.room) × (new ≡ record { head = s.head; low = old.low; options = s.options; room = old.room })
+Cloned s old new (Ok _) = (length s.options + 11 ≤ old.room)
+    × (new ≡ record { head = s.head; low = old.low; options = s.options; room = old.room })
 Cloned s old new (Err ShortBuf) = (old.room < length s.options + 11) × (new ≡ old)
 Cloned s old new (Err NoMemory) = (length s.options + 11 ≤ old.room) × (new ≡ old)
 Cloned s old new (Err LongOptData) = ⊥
@@ -88,8 +91,11 @@ Cloned s old new (Err (WrongLength a b)) = ⊥
 -- An option of octets that a writer writes, n of them as was stated, is pushed to a draft, or refused. WrongLength
 -- comes before ShortBuf.
 abbrev pub PushedRawIn : (List ℕ → Type 0) → ℕ → ℕ → OptDraft → OptDraft → Result ⊤ BuildDataError → Type 0
-PushedRawIn writes code n old new (Ok _) = Fits old.options n × (length old.options + 4 + n + 11 ≤ old.room) × ((d : List ℕ) × writes d × (length d ≡ n) × (new ≡ with_options old (old.options ++ option_octets code d)))
+PushedRawIn writes code n old new (Ok _) = Fits old.options n × (length old.options + 4 + n + 11 ≤ old.room)
+    × ((d : List ℕ) × writes d × (length d ≡ n) × (new ≡ with_options old (old.options ++ option_octets code d)))
 PushedRawIn writes code n old new (Err LongOptData) = (65535 < length old.options + 4 + n) × (new ≡ old)
-PushedRawIn writes code n old new (Err (WrongLength s w)) = Fits old.options n × ((d : List ℕ) × writes d × (s ≡ n) × (w ≡ length d) × (length d ≢ n)) × (new ≡ old)
-PushedRawIn writes code n old new (Err ShortBuf) = Fits old.options n × (old.room < length old.options + 4 + n + 11) × ((d : List ℕ) × writes d × (length d ≡ n)) × (new ≡ old)
+PushedRawIn writes code n old new (Err (WrongLength s w)) = Fits old.options n
+    × ((d : List ℕ) × writes d × (s ≡ n) × (w ≡ length d) × (length d ≢ n)) × (new ≡ old)
+PushedRawIn writes code n old new (Err ShortBuf) = Fits old.options n × (old.room < length old.options + 4 + n + 11)
+    × ((d : List ℕ) × writes d × (length d ≡ n)) × (new ≡ old)
 PushedRawIn writes code n old new (Err NoMemory) = Fits old.options n × (new ≡ old)

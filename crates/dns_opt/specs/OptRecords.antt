@@ -33,7 +33,12 @@ abbrev pub head_octets : OptHead → List ℕ
 head_octets h = 0 ∷ 0 ∷ 41 ∷ h.size / 256 ∷ h.size % 256 ∷ h.ext ∷ h.version ∷ h.flags / 256 ∷ h.flags % 256 ∷ []
 
 abbrev pub head_in : List ℕ → OptHead
-head_in d = record { size = be16 (slice_index d 3) (slice_index d 4); ext = slice_index d 5; version = slice_index d 6; flags = be16 (slice_index d 7) (slice_index d 8) }
+head_in d = record {
+  size = be16 (slice_index d 3) (slice_index d 4);
+  ext = slice_index d 5;
+  version = slice_index d 6;
+  flags = be16 (slice_index d 7) (slice_index d 8);
+}
 
 -- the head that stands behind one octet of name and two of type
 abbrev pub head_of : List ℕ → Result OptHead ParseError
@@ -49,7 +54,13 @@ opt_state h o = record { head = h; options = o }
 
 -- the class is the size, the TTL the upper bits of the response code, the version and the flags
 abbrev pub opt_record : OptState → ResourceRecord
-opt_record s = record { owner = []; rtype = 41; class = s.head.size; ttl = 16777216 * s.head.ext + 65536 * s.head.version + s.head.flags; rdata = s.options }
+opt_record s = record {
+  owner = [];
+  rtype = 41;
+  class = s.head.size;
+  ttl = 16777216 * s.head.ext + 65536 * s.head.version + s.head.flags;
+  rdata = s.options;
+}
 
 abbrev pub head_by : ℕ → ℕ → OptHead
 head_by class ttl = record { size = class; ext = ttl / 16777216; version = ttl / 65536 % 256; flags = ttl % 65536 }

@@ -33,7 +33,8 @@ reopened b = resumed (old_opt b.message) (less_opts b)
 
 -- A closure builds on the old OPT record, and what it leaves takes the place of the OPT records; a refused call leaves the message.
 -- calls x r y says that the closure, at x, may answer r and leave y there.
-pub record IsReopened (calls : OptDraft → Result ⊤ BuildDataError → OptDraft → Type 0) (old new : Built) (result : Result ⊤ BuildDataError) : Type 0 where
+pub record IsReopened (calls : OptDraft → Result ⊤ BuildDataError → OptDraft → Type 0) (old new : Built)
+    (result : Result ⊤ BuildDataError) : Type 0 where
   pub answer : Result ⊤ BuildDataError
   pub left : OptDraft
   pub met : calls (reopened old) answer left

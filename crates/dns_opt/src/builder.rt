@@ -143,7 +143,8 @@ fn refused_without_room<F: FnOnce(&mut Vec<u8>) -> Result<(), OutOfMemory>>(
     write: F,
 ) -> BuildDataError
     requires { F.IsAlwaysCallable write }
-    ensures { (code : ℕ) → (d : OptDraft) → Fits d.options len → d.room < length d.options + 4 + len + 11 → PushedRawIn (Writes F.FnOnce write) code len d d (Err result) }
+    ensures { (code : ℕ) → (d : OptDraft) → Fits d.options len → d.room < length d.options + 4 + len + 11
+        → PushedRawIn (Writes F.FnOnce write) code len d d (Err result) }
 {
     match written_by(alloc, write) {
         Ok(octets) => {

@@ -7,7 +7,8 @@ use Rattle.std.specs.declared.alloc.Global.{Global}
 use Rattle.dns_name.specs.declared.error.OutOfMemory.{OutOfMemory}
 
 -- called with an empty vector, the writer may succeed and leave these octets there
-pub record Writes {F : Type 0} (g : Once F (MutBor (Vec ℕ Global) × Unit {0}) (Result ⊤ OutOfMemory × (MutBor (Vec ℕ Global) × Unit {0}))) (f : F) (d : List ℕ) : Type 0 where
+pub record Writes {F : Type 0} (g : Once F (MutBor (Vec ℕ Global) × Unit {0})
+    (Result ⊤ OutOfMemory × (MutBor (Vec ℕ Global) × Unit {0}))) (f : F) (d : List ℕ) : Type 0 where
   pub shown : MutBor (Vec ℕ Global)
   pub empty : shown.now.items ≡ []
   pub left : MutBor (Vec ℕ Global)

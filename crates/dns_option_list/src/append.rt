@@ -25,7 +25,8 @@ pub fn append_value<D: ComposeOptData>(
     octets: &mut Vec<u8>,
     value: &D,
 ) -> Result<(), OutOfMemory>
-    ensures { octets.new.items ≡ (if is_ok result then octets.old.items ++ option_octets (D.code_of value.now) (D.octets value.now) else octets.old.items) }
+    ensures { octets.new.items ≡ (if is_ok result then octets.old.items ++ option_octets (D.code_of value.now) (D.octets value.now)
+        else octets.old.items) }
 {
     let start = octets.len();
     octets.extend_from_slice(&header(value.code().to_int(), value.compose_len()))?;

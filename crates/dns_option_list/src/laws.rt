@@ -7,7 +7,8 @@ ghost use Rattle.dns_option_list.specs.Joined.{options_octets};
 
 /// One option more is one pair of code and data more, as the last.
 pub fn push_adds_one_pair()
-    ensures { (o : List ℕ) (ps : List (ℕ × List ℕ)) (c : ℕ) (d : List ℕ) → options o ≡ Some ps → options (o ++ option_octets c d) ≡ Some (ps ++ (c, d) ∷ []) }
+    ensures { (o : List ℕ) (ps : List (ℕ × List ℕ)) (c : ℕ) (d : List ℕ) → options o ≡ Some ps
+        → options (o ++ option_octets c d) ≡ Some (ps ++ (c, d) ∷ []) }
 {}
 
 /// Octets are a list of certain options exactly where they are these options, one behind another, and an option list

@@ -20,6 +20,7 @@ Pushed code d old new (Err (WrongLength s w)) = ⊥
 abbrev pub PushedRaw : (List ℕ → Type 0) → ℕ → ℕ → List ℕ → List ℕ → Result ⊤ BuildDataError → Type 0
 PushedRaw writes code n old new (Ok _) = Fits old n × ((d : List ℕ) × writes d × (length d ≡ n) × (new ≡ old ++ option_octets code d))
 PushedRaw writes code n old new (Err LongOptData) = (65535 < length old + 4 + n) × (new ≡ old)
-PushedRaw writes code n old new (Err (WrongLength s w)) = Fits old n × ((d : List ℕ) × writes d × (s ≡ n) × (w ≡ length d) × (length d ≢ n)) × (new ≡ old)
+PushedRaw writes code n old new (Err (WrongLength s w)) = Fits old n
+    × ((d : List ℕ) × writes d × (s ≡ n) × (w ≡ length d) × (length d ≢ n)) × (new ≡ old)
 PushedRaw writes code n old new (Err NoMemory) = Fits old n × (new ≡ old)
 PushedRaw writes code n old new (Err ShortBuf) = ⊥

@@ -64,7 +64,8 @@ impl Outstanding {
     /// all as it was.
     pub fn ask(&mut self, place: usize, question: Question) -> Result<bool, OutOfMemory>
         ensures begun { IfOk result (λ begun. begun ≡ not (is_asked question self.old)) }
-        ensures kept { IfOk result (λ begun. self.new ≡ (if begun then self.old ++ record { place = place; question = question } ∷ [] else self.old)) }
+        ensures kept { IfOk result (λ begun. self.new
+            ≡ (if begun then self.old ++ record { place = place; question = question } ∷ [] else self.old)) }
         ensures err { OnErr result (self.new ≡ self.old) }
     {
         if self.is_asked(&question) {

@@ -154,4 +154,5 @@ by_layout origin at line (Some l) ws = laid_out origin line l ws
 by_layout origin at line None ws = Err (at, UnknownType)
 
 unfoldable pub data_of : List (List ℕ) → ℕ → ℕ → ℕ → List Word → LineRead (List ℕ)
-data_of origin at line t ws = if is_generic ws then (first_word line ws >>= λ w. generic line w.1) else by_layout origin at line (layout_of t) ws
+data_of origin at line t ws = if is_generic ws then (first_word line ws >>= λ w. generic line w.1)
+    else by_layout origin at line (layout_of t) ws

@@ -164,7 +164,8 @@ value_behind line p key (c ∷ d ∷ v) = some_or line Escape (string_octets (d 
 -- KEY or KEY=VALUE
 abbrev pub bare_param : Params → Word → LineRead Params
 bare_param p w =
-    param_ended w.line p >>= λ q. some_or w.line Parameter (param_key (take (equals_at w.octets) w.octets)) >>= λ key. value_behind w.line q key (drop (equals_at w.octets) w.octets)
+    param_ended w.line p >>= λ q. some_or w.line Parameter (param_key (take (equals_at w.octets) w.octets)) >>= λ key.
+    value_behind w.line q key (drop (equals_at w.octets) w.octets)
 
 abbrev pub one_param : Params → Word → LineRead Params
 one_param p w = if w.quoted then quoted_value p w p.opened else bare_param p w

@@ -105,7 +105,8 @@ fn end_item(
     octets: &mut Vec<u8>,
     word: &mut Vec<u8>,
 ) -> Result<Option<bool>, AllocError>
-    ensures { IfOk result (λ o. option_map (λ b. (b, octets.new.items, word.new.items)) o ≡ item_step item false octets.old.items word.old.items 44) }
+    ensures { IfOk result (λ o. option_map (λ b. (b, octets.new.items, word.new.items)) o
+        ≡ item_step item false octets.old.items word.old.items 44) }
 {
     let Some(_) = push_item(item, word.as_slice(), octets)? else {
         return Ok(None);
@@ -122,7 +123,8 @@ fn take_octet(
     word: &mut Vec<u8>,
     octet: u8,
 ) -> Result<Option<bool>, AllocError>
-    ensures { IfOk result (λ o. option_map (λ b. (b, octets.new.items, word.new.items)) o ≡ item_step item escaped octets.old.items word.old.items octet) }
+    ensures { IfOk result (λ o. option_map (λ b. (b, octets.new.items, word.new.items)) o
+        ≡ item_step item escaped octets.old.items word.old.items octet) }
 {
     if !escaped {
         if octet == b'\\' {

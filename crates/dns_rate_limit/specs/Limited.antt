@@ -54,7 +54,8 @@ module _ (same : IpAddr → IpAddr → Bool) (same_client : ZoneClient → ZoneC
   abbrev pub charged_with : LimitsState → IpAddr → ℕ → Kind → LimitsState
   charged_with l network second Answer = record l { answers = behind_in same l.answers network second }
   charged_with l network second Referral = record l { referrals = behind_in same l.referrals network second }
-  charged_with l network second (Negative zone) = record l { negatives = behind_in same_client l.negatives (record { network = network; zone = zone }) second }
+  charged_with l network second (Negative zone)
+      = record l { negatives = behind_in same_client l.negatives (record { network = network; zone = zone }) second }
   charged_with l network second Error = record l { errors = behind_in same l.errors network second }
 
   -- a client with a good server cookie, or in an exempt network, is never limited, and no table counts its responses
@@ -65,4 +66,5 @@ module _ (same : IpAddr → IpAddr → Bool) (same_client : ZoneClient → ZoneC
   judged l address has_cookie kind second = if is_free l address has_cookie then Whole else verdict_of l (network_in l address) second kind
 
   abbrev pub behind_judged : LimitsState → IpAddr → Bool → Kind → ℕ → LimitsState
-  behind_judged l address has_cookie kind second = if is_free l address has_cookie then l else charged_with l (network_in l address) second kind
+  behind_judged l address has_cookie kind second
+      = if is_free l address has_cookie then l else charged_with l (network_in l address) second kind

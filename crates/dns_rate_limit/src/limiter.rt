@@ -49,7 +49,8 @@ impl<K: Eq + Hash + Drop, S: BuildHasher + Drop> Limiter<K, S> {
     /// What is done with a response to a client at a second, which is charged to its account. A call that finds no memory
     /// leaves the table.
     pub fn ask(&mut self, client: K, second: u64) -> Result<Verdict, OutOfMemory>
-        ensures verdict { IfOk result (λ v. v ≡ verdict_by self.old.rate (charged_from self.old.rate (lookup (K.eq client) self.old.accounts.entries) second)) }
+        ensures verdict { IfOk result (λ v. v ≡ verdict_by self.old.rate
+            (charged_from self.old.rate (lookup (K.eq client) self.old.accounts.entries) second)) }
         ensures table { OnOk result (self.new.accounts ≡ behind K.eq self.old.rate self.old.accounts client second) }
         ensures rate { self.new.rate ≡ self.old.rate }
         ensures err { OnErr result (self.new.accounts ≡ self.old.accounts) }

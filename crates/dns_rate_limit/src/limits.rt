@@ -110,8 +110,10 @@ impl<S: BuildHasher + Copy + Drop> Limits<S> {
         kind: &Kind<'_>,
         second: u64,
     ) -> Result<Verdict, OutOfMemory>
-        ensures verdict { IfOk result (λ v. v ≡ judged (⟦<IpAddr as PartialEq>⟧.eq) (⟦<ZoneClient as PartialEq>⟧.eq) self.old address has_cookie kind.now second) }
-        ensures tables { OnOk result (self.new ≡ behind_judged (⟦<IpAddr as PartialEq>⟧.eq) (⟦<ZoneClient as PartialEq>⟧.eq) self.old address has_cookie kind.now second) }
+        ensures verdict { IfOk result (λ v. v ≡ judged (⟦<IpAddr as PartialEq>⟧.eq)
+            (⟦<ZoneClient as PartialEq>⟧.eq) self.old address has_cookie kind.now second) }
+        ensures tables { OnOk result (self.new ≡ behind_judged (⟦<IpAddr as PartialEq>⟧.eq)
+            (⟦<ZoneClient as PartialEq>⟧.eq) self.old address has_cookie kind.now second) }
         ensures err { OnErr result (self.new ≡ self.old) }
     {
         if has_cookie || is_in_any(self.exempt.as_slice(), address) {
@@ -129,8 +131,10 @@ impl<S: BuildHasher + Copy + Drop> Limits<S> {
         kind: &Kind<'_>,
         second: u64,
     ) -> Result<Verdict, OutOfMemory>
-        ensures verdict { IfOk result (λ v. v ≡ verdict_of (⟦<IpAddr as PartialEq>⟧.eq) (⟦<ZoneClient as PartialEq>⟧.eq) self.old network second kind.now) }
-        ensures tables { OnOk result (self.new ≡ charged_with (⟦<IpAddr as PartialEq>⟧.eq) (⟦<ZoneClient as PartialEq>⟧.eq) self.old network second kind.now) }
+        ensures verdict { IfOk result (λ v. v ≡ verdict_of (⟦<IpAddr as PartialEq>⟧.eq)
+            (⟦<ZoneClient as PartialEq>⟧.eq) self.old network second kind.now) }
+        ensures tables { OnOk result (self.new ≡ charged_with (⟦<IpAddr as PartialEq>⟧.eq)
+            (⟦<ZoneClient as PartialEq>⟧.eq) self.old network second kind.now) }
         ensures err { OnErr result (self.new ≡ self.old) }
     {
         match kind {

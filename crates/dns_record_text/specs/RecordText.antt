@@ -124,7 +124,8 @@ strings_on left (c ∷ cs) = string_octet_text left c ++ strings_on (if nat_eq l
 -- the words of these strings, of which the first is so far
 abbrev pub string_words : ℕ → List ℕ → List ℕ → List TextWord
 string_words left w [] = quoted_word w ∷ []
-string_words left w (c ∷ cs) = if nat_eq left 0 then quoted_word w ∷ string_words c [] cs else string_words (left - 1) (w ++ quoted_octet c) cs
+string_words left w (c ∷ cs) = if nat_eq left 0 then quoted_word w ∷ string_words c [] cs
+    else string_words (left - 1) (w ++ quoted_octet c) cs
 
 -- one string or more, and other octets as octets
 abbrev pub text_words : List ℕ → List TextWord
@@ -136,7 +137,8 @@ abbrev pub value_words : RecordData → List TextWord
 value_words (A a) = bare_word (ipv4_text a) ∷ []
 value_words (Aaaa a) = bare_word (ipv6_text (segments_of a)) ∷ []
 value_words (Named t n) = name_word n ∷ []
-value_words (Soa m r s f t e n) = name_word m ∷ name_word r ∷ number_word s.0 ∷ number_word f ∷ number_word t ∷ number_word e ∷ number_word n ∷ []
+value_words (Soa m r s f t e n) = name_word m ∷ name_word r ∷ number_word s.0 ∷ number_word f ∷ number_word t ∷ number_word e
+    ∷ number_word n ∷ []
 value_words (Minfo a b) = name_word a ∷ name_word b ∷ []
 value_words (Mx p n) = number_word p ∷ name_word n ∷ []
 value_words (Srv p w o n) = number_word p ∷ number_word w ∷ number_word o ∷ name_word n ∷ []

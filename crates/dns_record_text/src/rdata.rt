@@ -91,7 +91,8 @@ fn push_octets(
     rtype: u16,
     octets: &[u8],
 ) -> Result<(), OutOfMemory>
-    ensures { OnOk result (target.new.items ≡ target.old.items ++ behind_spaces (bare_word (numbered_type rtype) ∷ octet_words octets.now)) }
+    ensures { OnOk result (target.new.items ≡ target.old.items
+        ++ behind_spaces (bare_word (numbered_type rtype) ∷ octet_words octets.now)) }
 {
     push_numbered_type(target, rtype)?;
     push_octet_words(alloc, target, octets)
@@ -105,7 +106,8 @@ fn push_zone_start(
     rname: &Name,
     numbers: [u32; 5],
 ) -> Result<(), OutOfMemory>
-    ensures { OnOk result (target.new.items ≡ target.old.items ++ behind_spaces (bare_word (codes "SOA") ∷ name_word mname.now ∷ name_word rname.now ∷ map number_word numbers)) }
+    ensures { OnOk result (target.new.items ≡ target.old.items
+        ++ behind_spaces (bare_word (codes "SOA") ∷ name_word mname.now ∷ name_word rname.now ∷ map number_word numbers)) }
 {
     push(target, b" SOA")?;
     push_name_word(target, mname)?;
@@ -121,7 +123,8 @@ fn push_numbered_name(
     numbers: &[u32],
     name: &Name,
 ) -> Result<(), OutOfMemory>
-    ensures { OnOk result (target.new.items ≡ target.old.items ++ (32 ∷ (mnemonic.now ++ (behind_spaces (map number_word numbers.now) ++ (32 ∷ absolute_text name.now))))) }
+    ensures { OnOk result (target.new.items ≡ target.old.items
+        ++ (32 ∷ (mnemonic.now ++ (behind_spaces (map number_word numbers.now) ++ (32 ∷ absolute_text name.now))))) }
 {
     push_word(target, mnemonic)?;
     push_numbers(target, numbers)?;
@@ -136,7 +139,9 @@ fn push_unknown(
     rtype: u16,
     octets: &[u8],
 ) -> Result<(), OutOfMemory>
-    ensures { OnOk result (target.new.items ≡ target.old.items ++ behind_spaces (bare_word (type_word (RecordData.Unknown rtype octets.now)) ∷ value_words (RecordData.Unknown rtype octets.now))) }
+    ensures { OnOk result (target.new.items ≡ target.old.items
+        ++ behind_spaces (bare_word (type_word (RecordData.Unknown rtype octets.now))
+        ∷ value_words (RecordData.Unknown rtype octets.now))) }
 {
     if rtype != 16 {
         return push_octets(alloc, target, rtype, octets);

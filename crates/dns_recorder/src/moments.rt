@@ -25,7 +25,8 @@ pub fn pause<R: Wait>(rt: &R, millis: u64) {
 
 /// An event of now, by one reading of the clock.
 pub fn now_is<C: Clock>(clock: &mut C, client: u64, kind: EventKind) -> Event
-    ensures dated { Observed (C.tells clock.new) (C.tells clock.old) (C.readings clock.new ≡ C.readings clock.old ++ (result.at, result.secs) ∷ []) }
+    ensures dated { Observed (C.tells clock.new) (C.tells clock.old)
+        (C.readings clock.new ≡ C.readings clock.old ++ (result.at, result.secs) ∷ []) }
     ensures client { result.client ≡ client }
     ensures kind { result.kind ≡ kind }
 {
@@ -48,11 +49,13 @@ pub fn note_moment<C: Clock, J: Recorder>(
     journal: &mut J,
 ) -> Result<u64, OutOfMemory>
     requires { write_count kind ≡ 0 }
-    ensures observed { IfOk result (λ at. Observed (J.tells journal.new) (J.tells journal.old) (NotedMoment client kind at (J.noted journal.old) (J.noted journal.new))) }
+    ensures observed { IfOk result (λ at. Observed (J.tells journal.new) (J.tells journal.old)
+        (NotedMoment client kind at (J.noted journal.old) (J.noted journal.new))) }
     ensures clock { IfOk result (λ at. Observed (C.tells clock.new × J.tells journal.new) (C.tells clock.old × J.tells journal.old)
         (Timed (J.noted journal.old) (J.noted journal.new) 0 0 (C.readings clock.old) (C.readings clock.new))) }
     ensures no_memory { OnErr result (Observed (J.tells journal.new) (J.tells journal.old) (J.noted journal.new ≡ J.noted journal.old)) }
-    ensures clock_no_memory { OnErr result (Observed (C.tells clock.new × J.tells journal.new) (C.tells clock.old × J.tells journal.old) (J.noted journal.new ≡ J.noted journal.old)) }
+    ensures clock_no_memory { OnErr result (Observed (C.tells clock.new × J.tells journal.new)
+        (C.tells clock.old × J.tells journal.old) (J.noted journal.new ≡ J.noted journal.old)) }
 {
     let event = now_is(clock, client, kind);
     match journal.note(alloc, &event) {

@@ -21,7 +21,8 @@ pub fn note_version<C: Clock, J: Recorder>(
     last: &Look,
     look: &Look,
 ) -> Result<(), OutOfMemory>
-    ensures { NotesKinds C.tells C.readings J.tells J.noted (kinds (new_configurations last.now.version look.now)) result clock.old clock.new journal.old journal.new }
+    ensures { NotesKinds C.tells C.readings J.tells J.noted
+        (kinds (new_configurations last.now.version look.now)) result clock.old clock.new journal.old journal.new }
 {
     if look.version == last.version {
         return Ok(());
@@ -45,7 +46,8 @@ pub fn note_shutdown<C: Clock, J: Recorder>(
     last: &Look,
     look: &Look,
 ) -> Result<(), OutOfMemory>
-    ensures { NotesKinds C.tells C.readings J.tells J.noted (kinds (new_end last.now.closed look.now)) result clock.old clock.new journal.old journal.new }
+    ensures { NotesKinds C.tells C.readings J.tells J.noted
+        (kinds (new_end last.now.closed look.now)) result clock.old clock.new journal.old journal.new }
 {
     if !look.closed || last.closed {
         return Ok(());

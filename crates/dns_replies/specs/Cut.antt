@@ -23,7 +23,8 @@ first_fitting n (m ∷ ms) last = if fits n m then m else first_fitting n ms las
 -- the questions and a minimal one, or a minimal one alone.
 abbrev pub shortened : ℕ → Msg → Option ResourceRecord → Msg
 shortened n m None = first_fitting n (truncated m m.questions [] ∷ []) (truncated m [] [])
-shortened n m (Some r) = first_fitting n (truncated m m.questions (r ∷ []) ∷ truncated m m.questions (minimal r ∷ []) ∷ []) (truncated m [] (minimal r ∷ []))
+shortened n m (Some r) = first_fitting n (truncated m m.questions (r ∷ []) ∷ truncated m m.questions (minimal r ∷ []) ∷ [])
+    (truncated m [] (minimal r ∷ []))
 
 -- the message where it fits, else truncated
 abbrev pub cut : ℕ → Msg → Msg

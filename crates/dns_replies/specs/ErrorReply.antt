@@ -6,7 +6,8 @@ use Rattle.dns_base.specs.Replies.{error_to, within_limit}
 use Rattle.dns_opt.specs.Drafts.{OptDraft, opened_opt, with_opt, with_opt_record}
 use Rattle.dns_opt.specs.OptRecords.{zero_head}
 
--- the draft of an OPT record of size 0 and version 0 without options: the code's upper eight bits are in its head, the lower four in the message's header
+-- the draft of an OPT record of size 0 and version 0 without options: the code's upper eight bits are in its head, the lower four
+-- in the message's header
 abbrev pub code_draft : Built → ℕ → OptDraft
 code_draft b code = record (opened_opt b) { head = record zero_head { ext = code / 16 }; low = code % 16 }
 

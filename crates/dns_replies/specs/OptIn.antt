@@ -1,4 +1,5 @@
--- The OPT record of a message that is a plain record (RFC 6891, section 6.1.1): the first additional record of type 41, where its data is an option list.
+-- The OPT record of a message that is a plain record (RFC 6891, section 6.1.1): the first additional record of type 41, where its
+-- data is an option list.
 use Rattle.std.specs.Prelude.{[], Option}
 use Rattle.dns_base.specs.Msg.{Msg, ResourceRecord}
 use Rattle.dns_opt.specs.OptRecords.{head_by, opt_record, opt_record_among, opt_state}

@@ -30,8 +30,10 @@ with_option m code d = if nat_le (length (wire (optioned m code d))) 65535 then 
 -- An option is added: refused LongOptData where the option list would pass 65,535 octets, then ShortBuf where the message would pass
 -- its limit, both exactly. A refused call leaves the message.
 abbrev pub AddsOption : ℕ → List ℕ → Built → Built → Result ⊤ BuildDataError → Type 0
-AddsOption code d old new (Ok _) = (new ≡ record old { message = with_option old.message code d }) × (length (wire (optioned old.message code d)) ≤ old.limit)
+AddsOption code d old new (Ok _) = (new ≡ record old { message = with_option old.message code d })
+    × (length (wire (optioned old.message code d)) ≤ old.limit)
 AddsOption code d old new (Err LongOptData) = (new ≡ old) × (65535 < length (old_opt old.message).options + 4 + length d)
-AddsOption code d old new (Err ShortBuf) = (new ≡ old) × Fits (old_opt old.message).options (length d) × (old.limit < length (wire (optioned old.message code d)))
+AddsOption code d old new (Err ShortBuf) = (new ≡ old) × Fits (old_opt old.message).options (length d)
+    × (old.limit < length (wire (optioned old.message code d)))
 AddsOption code d old new (Err NoMemory) = new ≡ old
 AddsOption code d old new (Err (WrongLength s w)) = ⊥

@@ -120,7 +120,9 @@ fn asked_with(
 ) -> Result<Option<AdditionalBuilder>, OutOfMemory>
     requires limit { limit ≤ 65535 }
     requires lawful { IsLawful opt.now.rdata }
-    ensures { let m = message.now.message in IfOk result (λ o. o ≡ or_else (built_fitting limit (truncated m m.questions (record_of opt.now ∷ []))) (built_fitting limit (truncated m m.questions (minimal (record_of opt.now) ∷ [])))) }
+    ensures { let m = message.now.message in IfOk result
+        (λ o. o ≡ or_else (built_fitting limit (truncated m m.questions (record_of opt.now ∷ [])))
+        (built_fitting limit (truncated m m.questions (minimal (record_of opt.now) ∷ [])))) }
 {
     match asked(alloc, message, limit)? {
         Some(shorter) => either_built(alloc, shorter, opt),
@@ -135,7 +137,8 @@ fn either_built(
     opt: &Record,
 ) -> Result<Option<AdditionalBuilder>, OutOfMemory>
     requires { IsLawful opt.now.rdata }
-    ensures { let r = record_of opt.now in IfOk result (λ o. o ≡ or_else (where_fitting (with_additional message r)) (where_fitting (with_additional message (minimal r)))) }
+    ensures { let r = record_of opt.now in IfOk result
+        (λ o. o ≡ or_else (where_fitting (with_additional message r)) (where_fitting (with_additional message (minimal r)))) }
 {
     let mut shorter = message;
     if either_added(alloc, &mut shorter, opt)? {
@@ -152,7 +155,9 @@ fn either_added(
     opt: &Record,
 ) -> Result<bool, OutOfMemory>
     requires { IsLawful opt.now.rdata }
-    ensures { let r = record_of opt.now in IfOk result (AddedEither message.new (where_fitting (with_additional message.old r)) (where_fitting (with_additional message.old (minimal r)))) }
+    ensures { let r = record_of opt.now in IfOk result
+        (AddedEither message.new (where_fitting (with_additional message.old r))
+        (where_fitting (with_additional message.old (minimal r)))) }
 {
     if added(alloc, message, opt)? {
         return Ok(true);

@@ -51,7 +51,12 @@ fn listed(alloc: Global, found: &RecordRef<'_>) -> Result<Option<Record>, OutOfM
 
 /// The record with this data, owned.
 fn owned(alloc: Global, found: &RecordRef<'_>, rdata: RecordData) -> Result<Record, OutOfMemory>
-    ensures { IfOk result (λ r. r ≡ record { owner = found.now.resource.owner; class = found.now.resource.class; ttl = found.now.resource.ttl; rdata = rdata }) }
+    ensures { IfOk result (λ r. r ≡ record {
+      owner = found.now.resource.owner;
+      class = found.now.resource.class;
+      ttl = found.now.resource.ttl;
+      rdata = rdata;
+    }) }
 {
     match owner_of(alloc, found) {
         Ok(owner) => Ok(with_data(found, owner, rdata)),

@@ -32,7 +32,8 @@ pub fn add_edns_option<D: ComposeOptData>(
     option: &D,
 ) -> Result<(), BuildDataError>
     ensures added { AddsOption (D.code_of option.now) (D.octets option.now) response.old response.new result }
-    ensures whole { response.old.limit ≡ 65535 → result ≢ Err BuildDataError.OutOfMemory → response.new.message ≡ with_option response.old.message (D.code_of option.now) (D.octets option.now) }
+    ensures whole { response.old.limit ≡ 65535 → result ≢ Err BuildDataError.OutOfMemory
+        → response.new.message ≡ with_option response.old.message (D.code_of option.now) (D.octets option.now) }
 {
     let _within_limits = response.push_limit();
     add_edns_options(

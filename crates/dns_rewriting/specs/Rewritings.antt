@@ -16,5 +16,6 @@ abbrev pub reply_limit : {Meta : Type 0} → (Req Meta → Option ℕ) → Req M
 reply_limit hint r = limit_over r.transport (limit (hint r))
 
 -- the answers of the service inside, rewritten by what was found in the request, where that is something, and by that limit
-abbrev pub rewritten_replies : {T Meta : Type 0} → (T → Option ℕ → Msg → Msg) → Option T → (Req Meta → ℕ → Answer) → (Req Meta → Option ℕ) → Req Meta → ℕ → Answer
+abbrev pub rewritten_replies : {T Meta : Type 0} → (T → Option ℕ → Msg → Msg) → Option T → (Req Meta → ℕ → Answer)
+    → (Req Meta → Option ℕ) → Req Meta → ℕ → Answer
 rewritten_replies rewriting found answer hint r k = by_rule (λ t. rewriting t (reply_limit hint r)) found (answer r k)

@@ -14,7 +14,8 @@ served_by answer r k None = Ready (Ok (explained r.octets no_upstream))
 served_by answer r k (Some s) = answer s r k
 
 -- the answer by the first question; without a readable one it is FORMERR
-abbrev pub routed_by : {S : Type 0} → (S → Req (Unit {0}) → ℕ → TurnAnswer) → List (Route S) → Req (Unit {0}) → ℕ → Option Question → TurnAnswer
+abbrev pub routed_by : {S : Type 0} → (S → Req (Unit {0}) → ℕ → TurnAnswer) → List (Route S) → Req (Unit {0}) → ℕ → Option Question
+    → TurnAnswer
 routed_by answer rs r k None = Ready (Ok (error_state r.octets 1))
 routed_by answer rs r k (Some q) = served_by answer r k (chosen q.qname rs)
 

@@ -65,7 +65,8 @@ pub struct BoxClientTransportToSingleService {
 impl BoxClientTransportToSingleService {
     /// Over a transport that its owner put into a box.
     pub fn new(conn: Box<dyn SendRequest + Send + Sync>) -> Self
-        ensures { ⟦<BoxClientTransportToSingleService as SingleService>⟧.answer result ≡ relayed ((SendRequest-box conn).answer conn.value) }
+        ensures { ⟦<BoxClientTransportToSingleService as SingleService>⟧.answer result
+            ≡ relayed ((SendRequest-box conn).answer conn.value) }
     {
         BoxClientTransportToSingleService { conn }
     }

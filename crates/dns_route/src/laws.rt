@@ -17,8 +17,10 @@ use dns_base::{messages_read_back, typed_records_read_back};
 /// What is built of a router's own replies is the error reply to the query, and that with an extended error in its OPT
 /// record.
 pub fn own_replies_are_error_replies()
-    ensures plain { (query : List ℕ) (code : ℕ) → code < 16 → IsMessage (error_reply query code) → reply_message (error_state query code) ≡ Ok (error_reply query code) }
-    ensures explained { (query text : List ℕ) → IsMessage (error_reply query 2) → reply_message (explained query text) ≡ Ok (optioned (error_reply query 2) 15 (extended_octets (extended 0 (Some text)))) }
+    ensures plain { (query : List ℕ) (code : ℕ) → code < 16 → IsMessage (error_reply query code)
+        → reply_message (error_state query code) ≡ Ok (error_reply query code) }
+    ensures explained { (query text : List ℕ) → IsMessage (error_reply query 2)
+        → reply_message (explained query text) ≡ Ok (optioned (error_reply query 2) 15 (extended_octets (extended 0 (Some text)))) }
 {
     messages_read_back();
     typed_records_read_back();
@@ -27,7 +29,8 @@ pub fn own_replies_are_error_replies()
 /// The copy of a message that was written of typed records is that message, without the OPT records of its additional
 /// section.
 pub fn typed_messages_are_copied()
-    ensures { (m : Msg) → IsMessage m → AreTyped m.answers → AreTyped m.authority → AreTyped m.additional → copied (wire m) ≡ Ok (record m { additional = other_than 41 m.additional }) }
+    ensures { (m : Msg) → IsMessage m → AreTyped m.answers → AreTyped m.authority → AreTyped m.additional
+        → copied (wire m) ≡ Ok (record m { additional = other_than 41 m.additional }) }
 {
     messages_read_back();
     typed_records_read_back();

@@ -30,7 +30,8 @@ pub record Knows {S H : Type 0} (m : HashMap (SmallVec ℕ) ℕ H) (rs : List (R
   pub within : (o : List ℕ) → IfSome (place_under m o) (λ i. i < length rs)
 
 -- names and their services, places that know them, and a number of labels that none of the names passes
-pub record AreRoutes {S H : Type 0} (names : List (List (List ℕ))) (services : List S) (places : HashMap (SmallVec ℕ) ℕ H) (most : ℕ) : Type 0 where
+pub record AreRoutes {S H : Type 0} (names : List (List (List ℕ))) (services : List S) (places : HashMap (SmallVec ℕ) ℕ H)
+    (most : ℕ) : Type 0 where
   pub paired : length services ≡ length names
   pub known : Knows places (zip names services)
   pub within : most_labels (zip names services) ≤ most

@@ -56,7 +56,8 @@ pub(crate) fn key_of(alloc: Global, name: &Name) -> Result<Key, OutOfMemory>
 
 /// Keeps a place under octets, in place of what was kept there.
 fn put(places: &mut PlacesByName, key: Key, place: usize) -> Result<(), OutOfMemory>
-    ensures ok { OnOk result ((o : _) → place_under places.new o ≡ (if bytes_eq key.items o then Some place else place_under places.old o)) }
+    ensures ok { OnOk result ((o : _) → place_under places.new o
+        ≡ (if bytes_eq key.items o then Some place else place_under places.old o)) }
     ensures err { OnErr result (places.new.entries ≡ places.old.entries) }
 {
     places.insert(key, place)?;
@@ -84,7 +85,8 @@ fn place_next<S: Drop>(
     ensures names { names.new.items ≡ names.old.items }
     ensures services { services.new.items ≡ services.old.items }
     ensures room { OnOk result ((vec_len names.new < vec_capacity names.new) × (vec_len services.new < vec_capacity services.new)) }
-    ensures ok { OnOk result ((o : _) → place_under places.new o ≡ (if bytes_eq key.items o then Some (length services.old.items) else place_under places.old o)) }
+    ensures ok { OnOk result ((o : _) → place_under places.new o
+        ≡ (if bytes_eq key.items o then Some (length services.old.items) else place_under places.old o)) }
     ensures err { OnErr result (places.new.entries ≡ places.old.entries) }
 {
     reserve_both(names, services)?;
@@ -114,7 +116,8 @@ pub(crate) fn put_route<S: Drop>(
     requires known { Knows places.old (zip names.old.items services.old.items) }
     requires named { key.items ≡ name_key route.0 }
     ensures known { Knows places.new (zip names.new.items services.new.items) }
-    ensures ok { OnOk result ((names.new.items ≡ names.old.items ++ route.0 ∷ []) × (services.new.items ≡ services.old.items ++ route.1 ∷ [])) }
+    ensures ok { OnOk result ((names.new.items ≡ names.old.items ++ route.0 ∷ [])
+        × (services.new.items ≡ services.old.items ++ route.1 ∷ [])) }
     ensures err { OnErr result ((names.new.items ≡ names.old.items) × (services.new.items ≡ services.old.items)) }
 {
     place_next(names, services, places, key)?;

@@ -32,7 +32,8 @@ cache_command ws = if bytes_eq (word_at ws 0) (codes "cache") then cache_of (num
 
 -- `flood SEED COUNT`
 abbrev pub flood_command : List (List ℕ) → Option Command
-flood_command ws = if bytes_eq (word_at ws 0) (codes "flood") then flood_of (num_of (word_at ws 1)) (number 20 4000001 (word_at ws 2)) else None
+flood_command ws = if bytes_eq (word_at ws 0) (codes "flood")
+    then flood_of (num_of (word_at ws 1)) (number 20 4000001 (word_at ws 2)) else None
 
 -- the one word `replay`, `steps` or `trace`; `cache` and a number from 1 to 65,536; or `flood` and two numbers, of which the latter is at
 -- most 4,000,000

@@ -84,10 +84,14 @@ RunReads tells left (Flood seed count) s a b = (b ≡ a) × EndsFlood s
 
 -- of a script the source has to tell its text
 abbrev pub RunWrites : {R : Type 0} → (R → Type 0) → (R → List ℕ) → Command → Status → R → R → Type 0 → Type 0 → List ℕ → List ℕ → Type 0
-RunWrites tells left Replay s a b observed tell c d = Observed (tells b × observed) (tells a × tell) (WritesText s (run_text plan_outputs (event_script (left a))) c d)
-RunWrites tells left Steps s a b observed tell c d = Observed (tells b × observed) (tells a × tell) (WritesText s (run_text plan_step_outputs (step_script (left a))) c d)
-RunWrites tells left Trace s a b observed tell c d = Observed (tells b × observed) (tells a × tell) (WritesText s (text_or_refusal script_text (event_script (left a))) c d)
-RunWrites tells left (Cache capacity) s a b observed tell c d = Observed (tells b × observed) (tells a × tell) (WritesText s (text_or_refusal (cache_text capacity) (ask_script (left a))) c d)
+RunWrites tells left Replay s a b observed tell c d
+    = Observed (tells b × observed) (tells a × tell) (WritesText s (run_text plan_outputs (event_script (left a))) c d)
+RunWrites tells left Steps s a b observed tell c d
+    = Observed (tells b × observed) (tells a × tell) (WritesText s (run_text plan_step_outputs (step_script (left a))) c d)
+RunWrites tells left Trace s a b observed tell c d
+    = Observed (tells b × observed) (tells a × tell) (WritesText s (text_or_refusal script_text (event_script (left a))) c d)
+RunWrites tells left (Cache capacity) s a b observed tell c d
+    = Observed (tells b × observed) (tells a × tell) (WritesText s (text_or_refusal (cache_text capacity) (ask_script (left a))) c d)
 RunWrites tells left (Flood seed count) s a b observed tell c d = Observed observed tell (WritesText s (flood_text seed count) c d)
 
 -- a script gives Done, and another text Refused, save for want of memory

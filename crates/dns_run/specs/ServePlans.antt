@@ -23,7 +23,8 @@ HeedsWords (Err OutOfMemory) asked = Unit {0}
 HeedsWords (Err _) asked = IsSome asked
 
 -- a text is a script, whose settings, answers and verdicts these are
-pub record PlaysScript (read : Result (Plan NoEvent) (ℕ × Reason)) (settings : Settings) (answers : Req (Unit {0}) → ℕ → Answer) (verdicts : Verdicts) : Type 0 where
+pub record PlaysScript (read : Result (Plan NoEvent) (ℕ × Reason)) (settings : Settings) (answers : Req (Unit {0}) → ℕ → Answer)
+    (verdicts : Verdicts) : Type 0 where
   pub said : Plan NoEvent
   pub is_read : read ≡ Ok said
   pub settings_said : settings ≡ settings_of said

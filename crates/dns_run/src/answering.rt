@@ -27,7 +27,8 @@ pub(crate) trait AnswerScript<E: ScriptLine>: Drop {
 
     /// Writes the text. After an error a front of it was written.
     fn write<W: Sink>(&self, alloc: Global, script: Script<E>, sink: &mut W) -> Written
-        ensures observed { Observed (W.tells sink.new) (W.tells sink.old) (Wrote result (text self.now script) (W.taken sink.old) (W.taken sink.new)) }
+        ensures observed { Observed (W.tells sink.new) (W.tells sink.old)
+            (Wrote result (text self.now script) (W.taken sink.old) (W.taken sink.new)) }
         ensures cause { WroteFaults result (W.faults sink.old) (W.faults sink.new) };
 }
 
@@ -39,7 +40,8 @@ impl<E: Scripted> AnswerScript<E> for Clients {
     ghost text = { λ _. clients_text (plan_sent E.sent) };
 
     fn write<W: Sink>(&self, alloc: Global, script: Script<E>, sink: &mut W) -> Written
-        ensures observed { Observed (W.tells sink.new) (W.tells sink.old) (Wrote result (clients_text (plan_sent E.sent) script) (W.taken sink.old) (W.taken sink.new)) }
+        ensures observed { Observed (W.tells sink.new) (W.tells sink.old)
+            (Wrote result (clients_text (plan_sent E.sent) script) (W.taken sink.old) (W.taken sink.new)) }
         ensures cause { WroteFaults result (W.faults sink.old) (W.faults sink.new) }
     {
         let all = serve_script(alloc, script)?;
@@ -55,7 +57,8 @@ impl AnswerScript<Event> for Recorded {
     ghost text = { λ _. script_text };
 
     fn write<W: Sink>(&self, alloc: Global, script: Script<Event>, sink: &mut W) -> Written
-        ensures observed { Observed (W.tells sink.new) (W.tells sink.old) (Wrote result (script_text script) (W.taken sink.old) (W.taken sink.new)) }
+        ensures observed { Observed (W.tells sink.new) (W.tells sink.old)
+            (Wrote result (script_text script) (W.taken sink.old) (W.taken sink.new)) }
         ensures cause { WroteFaults result (W.faults sink.old) (W.faults sink.new) }
     {
         let text = script_text(alloc, script)?;
@@ -74,7 +77,8 @@ impl AnswerScript<Ask> for Questions {
     ghost text = { λ q. cache_text q.capacity };
 
     fn write<W: Sink>(&self, alloc: Global, script: Script<Ask>, sink: &mut W) -> Written
-        ensures observed { Observed (W.tells sink.new) (W.tells sink.old) (Wrote result (cache_text self.now.capacity script) (W.taken sink.old) (W.taken sink.new)) }
+        ensures observed { Observed (W.tells sink.new) (W.tells sink.old)
+            (Wrote result (cache_text self.now.capacity script) (W.taken sink.old) (W.taken sink.new)) }
         ensures cause { WroteFaults result (W.faults sink.old) (W.faults sink.new) }
     {
         write_answers(alloc, sink, script, self.capacity)

@@ -44,7 +44,8 @@ fn write_answer<W: Sink>(
     rules: &mut CachedRules,
     ask: Ask,
 ) -> Result<(), WriteError>
-    ensures observed { Observed (W.tells sink.new) (W.tells sink.old) (Pours result (text.old.items ++ asked_line rules.old ask) text.new.items (W.taken sink.old) (W.taken sink.new)) }
+    ensures observed { Observed (W.tells sink.new) (W.tells sink.old)
+        (Pours result (text.old.items ++ asked_line rules.old ask) text.new.items (W.taken sink.old) (W.taken sink.new)) }
     ensures later { W.faults sink.old ≤ W.faults sink.new }
     ensures cause { WroteFaults result (W.faults sink.old) (W.faults sink.new) }
     ensures cached { OnOk result (rules.new ≡ asked_behind rules.old ask) }
@@ -64,7 +65,8 @@ fn write_each<W: Sink>(
     asks: Vec<Ask>,
 ) -> Result<(), WriteError>
     requires { text.old.items ≡ [] }
-    ensures observed { Observed (W.tells sink.new) (W.tells sink.old) (Pours result (asked_text rules.old asks.items) text.new.items (W.taken sink.old) (W.taken sink.new)) }
+    ensures observed { Observed (W.tells sink.new) (W.tells sink.old)
+        (Pours result (asked_text rules.old asks.items) text.new.items (W.taken sink.old) (W.taken sink.new)) }
     ensures later { W.faults sink.old ≤ W.faults sink.new }
     ensures cause { WroteFaults result (W.faults sink.old) (W.faults sink.new) }
 {
@@ -82,7 +84,8 @@ fn write_asks<W: Sink>(
     rules: &mut CachedRules,
     asks: Vec<Ask>,
 ) -> Result<(), WriteError>
-    ensures observed { Observed (W.tells sink.new) (W.tells sink.old) (Wrote result (asked_text rules.old asks.items) (W.taken sink.old) (W.taken sink.new)) }
+    ensures observed { Observed (W.tells sink.new) (W.tells sink.old)
+        (Wrote result (asked_text rules.old asks.items) (W.taken sink.old) (W.taken sink.new)) }
     ensures cause { WroteFaults result (W.faults sink.old) (W.faults sink.new) }
 {
     let mut text = Vec::new(alloc);
@@ -100,7 +103,9 @@ fn write_cached<W: Sink>(
     asks: Vec<Ask>,
     capacity: u32,
 ) -> Result<(), WriteError>
-    ensures observed { Observed (W.tells sink.new) (W.tells sink.old) (Wrote result (asked_text (record { rules = rules; cached = empty_cache capacity }) asks.items) (W.taken sink.old) (W.taken sink.new)) }
+    ensures observed { Observed (W.tells sink.new) (W.tells sink.old)
+        (Wrote result (asked_text (record { rules = rules; cached = empty_cache capacity }) asks.items) (W.taken sink.old)
+        (W.taken sink.new)) }
     ensures cause { WroteFaults result (W.faults sink.old) (W.faults sink.new) }
 {
     match CachedRules::new(alloc, rules, capacity) {
@@ -116,7 +121,8 @@ pub(crate) fn write_answers<W: Sink>(
     script: Script<Ask>,
     capacity: u32,
 ) -> Result<(), WriteError>
-    ensures observed { Observed (W.tells sink.new) (W.tells sink.old) (Wrote result (cache_text capacity script) (W.taken sink.old) (W.taken sink.new)) }
+    ensures observed { Observed (W.tells sink.new) (W.tells sink.old)
+        (Wrote result (cache_text capacity script) (W.taken sink.old) (W.taken sink.new)) }
     ensures cause { WroteFaults result (W.faults sink.old) (W.faults sink.new) }
 {
     let (_settings, service, _notify_rules, asks) = script.into_parts();

@@ -25,9 +25,11 @@ fn run_script<E: ScriptLine, A: AnswerScript<E>, R: Source, W: Sink>(
     source: &mut R,
     sink: &mut W,
 ) -> Status
-    ensures read { Observed (R.tells source.new) (R.tells source.old) (ReadsSource (script E.has E.reading) result (R.left source.old) (R.left source.new)) }
+    ensures read { Observed (R.tells source.new) (R.tells source.old)
+        (ReadsSource (script E.has E.reading) result (R.left source.old) (R.left source.new)) }
     ensures written { Observed (R.tells source.new × W.tells sink.new) (R.tells source.old × W.tells sink.old)
-        (WritesText result (text_or_refusal (A.text answering.now) (script E.has E.reading (R.left source.old))) (W.taken sink.old) (W.taken sink.new)) }
+        (WritesText result (text_or_refusal (A.text answering.now) (script E.has E.reading (R.left source.old))) (W.taken sink.old)
+        (W.taken sink.new)) }
     ensures source_faults { SourceFaults result (R.faults source.old) (R.faults source.new) }
     ensures sink_faults { SinkFaults result (W.faults sink.old) (W.faults sink.new) }
     ensures too_long { result ≡ Status.TooLong → sink.new ≡ sink.old }
@@ -43,14 +45,16 @@ fn run_script<E: ScriptLine, A: AnswerScript<E>, R: Source, W: Sink>(
 /// Serves a flood, and writes how much was sent.
 #[tactic(auto, using(dns_flood::proofs::Batches::nothing_written))]
 fn answer_flood<W: Sink>(alloc: Global, sink: &mut W, seed: u64, count: u32) -> Status
-    ensures written { Observed (W.tells sink.new) (W.tells sink.old) (WritesText result (flood_text seed count) (W.taken sink.old) (W.taken sink.new)) }
+    ensures written { Observed (W.tells sink.new) (W.tells sink.old)
+        (WritesText result (flood_text seed count) (W.taken sink.old) (W.taken sink.new)) }
     ensures faults { SinkFaults result (W.faults sink.old) (W.faults sink.new) }
     ensures ends { EndsFlood result }
 {
     Status::Done.after(write_flood(alloc, sink, seed, count))
 }
 
-/// Does what the words ask for. Nothing but the lines of outputs, of a script and of a cache's answers, the line of a refusal and that of a flood is written.
+/// Does what the words ask for. Nothing but the lines of outputs, of a script and of a cache's answers, the line of a refusal and
+/// that of a flood is written.
 #[tactic(auto, using(crate::proofs::Running::replay_completes, crate::proofs::Running::flood_completes))]
 pub fn run<R: Source, W: Sink>(
     alloc: Global,

@@ -74,9 +74,11 @@ pub fn serve_plan<R: Source, W: Sink>(
         (ReadsSource server_script (status_of result) (R.left source.old) (R.left source.new))) }
     // If the source tells: a plan is that of the script that it held.
     ensures plan { IfOk result (λ p. Observed (R.tells source.new) (R.tells source.old)
-        (PlaysScript (server_script (R.left source.old)) p.settings (⟦<ScriptService as Service<()>>⟧.answer p.service) (⟦<ScriptTarget as Notifiable>⟧.verdict p.target))) }
+        (PlaysScript (server_script (R.left source.old)) p.settings (⟦<ScriptService as Service<()>>⟧.answer p.service)
+        (⟦<ScriptTarget as Notifiable>⟧.verdict p.target))) }
     // What was written, where the sink tells too: nothing, or the line of the refusal.
-    ensures written { IfSome (serve_words (map string_bytes words.now)) (λ w. Observed (R.tells source.new × W.tells sink.new) (R.tells source.old × W.tells sink.old)
+    ensures written { IfSome (serve_words (map string_bytes words.now))
+        (λ w. Observed (R.tells source.new × W.tells sink.new) (R.tells source.old × W.tells sink.old)
         (WritesText (status_of result) (refusal_text (server_script (R.left source.old))) (W.taken sink.old) (W.taken sink.new))) }
     // Without a fault the words and the script decide.
     ensures complete { (Rose (R.faults source.old) (R.faults source.new) → ⊥) → (Rose (W.faults sink.old) (W.faults sink.new) → ⊥)

@@ -19,7 +19,8 @@ fn script_of<E: ScriptLine, W: Sink>(
     sink: &mut W,
 ) -> Result<Script<E>, Status>
     ensures said { Says result (script E.has E.reading text.now) }
-    ensures observed { Observed (W.tells sink.new) (W.tells sink.old) (WritesText (status_of result) (refusal_text (script E.has E.reading text.now)) (W.taken sink.old) (W.taken sink.new)) }
+    ensures observed { Observed (W.tells sink.new) (W.tells sink.old)
+        (WritesText (status_of result) (refusal_text (script E.has E.reading text.now)) (W.taken sink.old) (W.taken sink.new)) }
     ensures faults { SinkFaults (status_of result) (W.faults sink.old) (W.faults sink.new) }
     ensures unwritten { IsOk result → sink.new ≡ sink.old }
 {
@@ -39,8 +40,10 @@ pub fn read_whole<E: ScriptLine, R: Source, W: Sink>(
     source: &mut R,
     sink: &mut W,
 ) -> Result<Script<E>, Status>
-    ensures read { Observed (R.tells source.new) (R.tells source.old) (ReadsSource (script E.has E.reading) (status_of result) (R.left source.old) (R.left source.new)) }
-    ensures said { IfOk result (λ s. Observed (R.tells source.new) (R.tells source.old) (script E.has E.reading (R.left source.old) ≡ Ok s)) }
+    ensures read { Observed (R.tells source.new) (R.tells source.old)
+        (ReadsSource (script E.has E.reading) (status_of result) (R.left source.old) (R.left source.new)) }
+    ensures said { IfOk result (λ s. Observed (R.tells source.new) (R.tells source.old)
+        (script E.has E.reading (R.left source.old) ≡ Ok s)) }
     ensures written { Observed (R.tells source.new × W.tells sink.new) (R.tells source.old × W.tells sink.old)
         (WritesText (status_of result) (refusal_text (script E.has E.reading (R.left source.old))) (W.taken sink.old) (W.taken sink.new)) }
     ensures source_faults { SourceFaults (status_of result) (R.faults source.old) (R.faults source.new) }

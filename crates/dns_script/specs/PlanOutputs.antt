@@ -28,7 +28,8 @@ service_answers (Zone zone) = turned_over (zone_turn zone)
 
 -- what the clients of a script are sent for its events, or its steps, where this is what clients are sent for such
 unfoldable pub plan_sent : {E : Type 0} → (Serving → Settings → List E → List Output) → Plan E → List Output
-plan_sent sent p = sent (wrapped_serving (settings_of p) (service_answers p.service) (script_verdicts p.notify_rules)) (settings_of p) p.events
+plan_sent sent p = sent (wrapped_serving (settings_of p) (service_answers p.service) (script_verdicts p.notify_rules))
+    (settings_of p) p.events
 
 -- what the clients are sent: the outputs of the events, served by the service under the settings
 abbrev pub plan_outputs : Plan Event → List Output

@@ -76,7 +76,8 @@ PutsPadding d old new result = Appended d old new result
 abbrev pub opt_reply : List ℕ → ℕ → Item
 opt_reply o n =
     if have_room new_builder o 0
-    then replied_within (with_opt_record (padded_draft (answer_to new_builder o 0) n) (answer_to new_builder o 0)) (with_opt (padded_draft (answer_to new_builder o 0) n) (answer_to new_builder o 0))
+    then replied_within (with_opt_record (padded_draft (answer_to new_builder o 0) n) (answer_to new_builder o 0))
+    (with_opt (padded_draft (answer_to new_builder o 0) n) (answer_to new_builder o 0))
     else Err InternalError
 
 abbrev pub reply_item : List ℕ → ScriptReply → Item

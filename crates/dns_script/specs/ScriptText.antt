@@ -27,7 +27,8 @@ words_of_apex apex = codes "zone" ∷ spelled_name apex ∷ []
 
 -- record NAME TTL TYPE HEX
 abbrev pub words_of_record : Record → List (List ℕ)
-words_of_record r = codes "record" ∷ spelled_name r.owner ∷ decimal r.ttl ∷ decimal (data_type r.rdata) ∷ octets_word (data_octets r.rdata) ∷ []
+words_of_record r = codes "record" ∷ spelled_name r.owner ∷ decimal r.ttl ∷ decimal (data_type r.rdata)
+    ∷ octets_word (data_octets r.rdata) ∷ []
 
 abbrev pub words_of_service : ServiceLines → List (List (List ℕ))
 words_of_service (Rules rules) = map words_of_rule rules

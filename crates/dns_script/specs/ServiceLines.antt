@@ -98,7 +98,8 @@ written_uncompressed octets (Err e) = Err Value
 
 -- the record of class IN whose data, of the shape of its type, is these octets
 abbrev pub typed_record : List (List ℕ) → ℕ → ℕ → List ℕ → Result Record Reason
-typed_record owner seconds rtype octets = written_uncompressed octets (read_alone (standing_at (record_octets (resource_of owner seconds rtype octets)) 0))
+typed_record owner seconds rtype octets =
+    written_uncompressed octets (read_alone (standing_at (record_octets (resource_of owner seconds rtype octets)) 0))
 
 -- HEX, of at most 65,535 octets
 abbrev pub data_word : List ℕ → Result (List ℕ) Reason

@@ -17,7 +17,8 @@ use Rattle.dns_script.specs.Script.{every_word, said_line}
 -- lines of a service, of a target or of a zone begin with this word
 abbrev pub is_service_word : List ℕ → Bool
 is_service_word w =
-    bytes_eq w (codes "rule") || (bytes_eq w (codes "notify") || (bytes_eq w (codes "upstream") || (bytes_eq w (codes "zone") || bytes_eq w (codes "record"))))
+    bytes_eq w (codes "rule") || (bytes_eq w (codes "notify")
+    || (bytes_eq w (codes "upstream") || (bytes_eq w (codes "zone") || bytes_eq w (codes "record"))))
 
 abbrev pub is_service_line : List ℕ → Bool
 is_service_line l = is_service_word (word_at (words_of l) 0)

@@ -14,7 +14,8 @@ use std::alloc::Global;
 
 /// What follows a prefix of a word.
 pub(crate) fn behind<'a>(word: &'a [u8], prefix: &[u8]) -> Option<&'a [u8]>
-    ensures { MatchOption result (bytes_eq (take (length prefix.now) word.now) prefix.now ≡ false) (λ rest. (bytes_eq (take (length prefix.now) word.now) prefix.now ≡ true) × (rest.now ≡ drop (length prefix.now) word.now)) }
+    ensures { MatchOption result (bytes_eq (take (length prefix.now) word.now) prefix.now ≡ false)
+        (λ rest. (bytes_eq (take (length prefix.now) word.now) prefix.now ≡ true) × (rest.now ≡ drop (length prefix.now) word.now)) }
 {
     if word.len() < prefix.len() || &word[..prefix.len()] != prefix {
         return None;

@@ -95,8 +95,11 @@ fn call(
     request: &Request<()>,
     k: u64,
 ) -> Result<Option<String>, OutOfMemory>
-    ensures line { IfOk result (λ t. option_map string_bytes t ≡ call_text (called (rule_turns turns.now.rules) cache.old (record { request = request.now; k = k })).cached (rule_turns turns.now.rules request.now k)) }
-    ensures cached { OnOk result (cache.new ≡ (called (rule_turns turns.now.rules) cache.old (record { request = request.now; k = k })).behind) }
+    ensures line { IfOk result (λ t. option_map string_bytes t
+        ≡ call_text (called (rule_turns turns.now.rules) cache.old (record { request = request.now; k = k })).cached
+        (rule_turns turns.now.rules request.now k)) }
+    ensures cached { OnOk result (cache.new ≡ (called (rule_turns turns.now.rules) cache.old
+        (record { request = request.now; k = k })).behind) }
     ensures err { OnErr result (IsAtCall (rule_turns turns.now.rules) request.now k cache.old cache.new) }
 {
     let turned = cache.ask(alloc, turns, request, k)?;

@@ -13,11 +13,13 @@ ghost use Rattle.dns_script.specs.TraceScript.{AreNoServices, is_service_line, r
 /// other is refused at the first such line, unless an earlier line is refused.
 pub fn a_trace_is_a_script()
     ensures plain { (t : List ℕ) → AreNoServices (lines t) → traced t ≡ script_trace (event_script t) }
-    ensures service { (t l : List ℕ) (before after : List (List ℕ)) → lines t ≡ before ++ l ∷ after → AreNoServices before → is_service_line l ≡ true → traced t ≡ refused_behind (length before + 1) l (script_lines before) }
+    ensures service { (t l : List ℕ) (before after : List (List ℕ)) → lines t ≡ before ++ l ∷ after → AreNoServices before
+        → is_service_line l ≡ true → traced t ≡ refused_behind (length before + 1) l (script_lines before) }
 {}
 
 /// The text that is written of a script that was read is a script of the same settings, service, target and events, and writing that again
 /// gives the same text.
 pub fn a_script_reads_back()
-    ensures { (t : List ℕ) (p : Plan Event) → event_script t ≡ Ok p → ((q : Plan Event) × (event_script (script_text p) ≡ Ok q) × SameScript p q × (script_text q ≡ script_text p)) }
+    ensures { (t : List ℕ) (p : Plan Event) → event_script t ≡ Ok p
+        → ((q : Plan Event) × (event_script (script_text p) ≡ Ok q) × SameScript p q × (script_text q ≡ script_text p)) }
 {}

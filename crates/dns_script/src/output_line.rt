@@ -40,7 +40,8 @@ fn octets_line(
     number: u64,
     octets: &Octets,
 ) -> Result<String, OutOfMemory>
-    ensures { IfOk result (λ t. string_bytes t ≡ first.now ++ (codes " " ++ (decimal number ++ (codes " " ++ (encode_lower octets.now ++ codes "\n"))))) }
+    ensures { IfOk result (λ t. string_bytes t
+        ≡ first.now ++ (codes " " ++ (decimal number ++ (codes " " ++ (encode_lower octets.now ++ codes "\n"))))) }
 {
     let digits = hex::encode(alloc, octets.as_slice())?;
     word_line(alloc, first, number, digits.as_str())

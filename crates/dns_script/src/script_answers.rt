@@ -79,7 +79,8 @@ pub(crate) fn begin(
     message: &Message,
     rcode: Rcode,
 ) -> Result<Option<AnswerBuilder>, OutOfMemory>
-    ensures { IfOk result (λ o. MatchOption o (have_room new_builder message.now rcode ≡ false) (λ b. (b ≡ answer_to new_builder message.now rcode) × (have_room new_builder message.now rcode ≡ true))) }
+    ensures { IfOk result (λ o. MatchOption o (have_room new_builder message.now rcode ≡ false)
+        (λ b. (b ≡ answer_to new_builder message.now rcode) × (have_room new_builder message.now rcode ≡ true))) }
 {
     let builder = MessageBuilder::new(alloc)?;
     match builder.start_answer(alloc, message, rcode) {
@@ -134,7 +135,8 @@ fn append(
     ttl: Ttl,
     len: u16,
 ) -> Result<ServiceResult, OutOfMemory>
-    ensures { IfOk result (λ i. i ≡ replied_within (with_answer reply (private_record ttl (replicate len 0))) (with_answer reply (private_record ttl (replicate len 0)))) }
+    ensures { IfOk result (λ i. i ≡ replied_within (with_answer reply (private_record ttl (replicate len 0)))
+        (with_answer reply (private_record ttl (replicate len 0)))) }
 {
     let mut reply = reply;
     match put_zeros(&mut reply, alloc, ttl, len) {
@@ -146,8 +148,10 @@ fn append(
 
 /// Appends an answer of this time to live and so many zeros, where it has room.
 fn put_zeros(reply: &mut AnswerBuilder, alloc: Global, ttl: Ttl, len: u16) -> Result<(), PushError>
-    ensures added { OnOk result ((reply.new ≡ with_answer reply.old (private_record ttl (replicate len 0))) × (within_limit (with_answer reply.old (private_record ttl (replicate len 0))) ≡ true)) }
-    ensures full { IfErr result (λ e. e ≡ PushError.ShortBuf → within_limit (with_answer reply.old (private_record ttl (replicate len 0))) ≡ false) }
+    ensures added { OnOk result ((reply.new ≡ with_answer reply.old (private_record ttl (replicate len 0)))
+        × (within_limit (with_answer reply.old (private_record ttl (replicate len 0))) ≡ true)) }
+    ensures full { IfErr result (λ e. e ≡ PushError.ShortBuf
+        → within_limit (with_answer reply.old (private_record ttl (replicate len 0))) ≡ false) }
 {
     match zeros(alloc, ttl, len) {
         Ok(record) => reply.push(alloc, &record),
@@ -183,7 +187,8 @@ fn make_padded(alloc: Global, message: &Message, len: u16) -> Result<ServiceResu
 
 /// What is begun with an OPT record of so many zeros more.
 fn pad(alloc: Global, reply: AdditionalBuilder, len: u16) -> Result<ServiceResult, OutOfMemory>
-    ensures { IfOk result (λ i. i ≡ replied_within (with_opt_record (padded_draft reply len) reply) (with_opt (padded_draft reply len) reply)) }
+    ensures { IfOk result (λ i. i ≡ replied_within (with_opt_record (padded_draft reply len) reply)
+        (with_opt (padded_draft reply len) reply)) }
 {
     let mut reply = reply;
     match put_padding(&mut reply, alloc, len) {

@@ -31,7 +31,8 @@ fn write_lines(
     notify_rules: &NotifyRules,
     events: &[Event],
 ) -> Result<(), OutOfMemory>
-    ensures { OnOk result (text.new ≡ text.old ++ (service_text service.now ++ (target_text notify_rules.now ++ flat_map event_text events.now))) }
+    ensures { OnOk result (text.new ≡ text.old
+        ++ (service_text service.now ++ (target_text notify_rules.now ++ flat_map event_text events.now))) }
 {
     write_service(alloc, text, service)?;
     write_target(text, notify_rules.as_slice())?;
@@ -46,7 +47,8 @@ fn whole_text(
     notify_rules: &NotifyRules,
     events: &[Event],
 ) -> Result<Vec<u8>, OutOfMemory>
-    ensures { IfOk result (λ whole. whole.items ≡ settings_text settings.now ++ (service_text service.now ++ (target_text notify_rules.now ++ flat_map event_text events.now))) }
+    ensures { IfOk result (λ whole. whole.items
+        ≡ settings_text settings.now ++ (service_text service.now ++ (target_text notify_rules.now ++ flat_map event_text events.now))) }
 {
     let mut text = TextWriter::new(alloc);
     write_settings(&mut text, settings)?;

@@ -45,7 +45,9 @@ pub trait Scripted: ScriptLine {
         service: S,
     ) -> Result<Vec<Output>, OutOfMemory>
         requires { S.can_call service }
-        ensures { IfOk result (λ v. v.items ≡ sent (wrapped_serving script.settings (S.answer service) (⟦<ScriptTarget as Notifiable>⟧.verdict script.target)) script.settings script.events.items) };
+        ensures { IfOk result (λ v. v.items ≡ sent
+            (wrapped_serving script.settings (S.answer service) (⟦<ScriptTarget as Notifiable>⟧.verdict script.target))
+            script.settings script.events.items) };
 }
 
 impl Scripted for Event {
@@ -57,7 +59,9 @@ impl Scripted for Event {
         service: S,
     ) -> Result<Vec<Output>, OutOfMemory>
         requires { S.can_call service }
-        ensures { IfOk result (λ v. v.items ≡ out (wrapped_serving script.settings (S.answer service) (⟦<ScriptTarget as Notifiable>⟧.verdict script.target)) script.settings script.events.items) }
+        ensures { IfOk result (λ v. v.items ≡ out
+            (wrapped_serving script.settings (S.answer service) (⟦<ScriptTarget as Notifiable>⟧.verdict script.target))
+            script.settings script.events.items) }
     {
         let target = script.target;
         serve_events(alloc, &script.settings, service, target, &script.events)
@@ -73,7 +77,9 @@ impl Scripted for Step {
         service: S,
     ) -> Result<Vec<Output>, OutOfMemory>
         requires { S.can_call service }
-        ensures { IfOk result (λ v. v.items ≡ outs (wrapped_serving script.settings (S.answer service) (⟦<ScriptTarget as Notifiable>⟧.verdict script.target)) script.settings script.events.items) }
+        ensures { IfOk result (λ v. v.items ≡ outs
+            (wrapped_serving script.settings (S.answer service) (⟦<ScriptTarget as Notifiable>⟧.verdict script.target))
+            script.settings script.events.items) }
     {
         let target = script.target;
         serve_steps(alloc, &script.settings, service, target, &script.events)
@@ -86,7 +92,9 @@ fn serve_single<E: Scripted, S: SingleService>(
     script: UnservedScript<E>,
     single: S,
 ) -> Result<Vec<Output>, OutOfMemory>
-    ensures { IfOk result (λ v. v.items ≡ E.sent (wrapped_serving script.settings (turned_over (S.answer single)) (⟦<ScriptTarget as Notifiable>⟧.verdict script.target)) script.settings script.events.items) }
+    ensures { IfOk result (λ v. v.items ≡ E.sent
+        (wrapped_serving script.settings (turned_over (S.answer single)) (⟦<ScriptTarget as Notifiable>⟧.verdict script.target))
+        script.settings script.events.items) }
 {
     let single = Arc::new(alloc, single)?;
     E::serve_with(alloc, script, SingleServiceToService::new(single))
@@ -98,7 +106,9 @@ fn serve_upstreams<E: Scripted>(
     script: UnservedScript<E>,
     upstreams: Upstreams,
 ) -> Result<Vec<Output>, OutOfMemory>
-    ensures { IfOk result (λ v. v.items ≡ E.sent (wrapped_serving script.settings (turned_over (routed upstream_turn (upstreams_under upstreams))) (⟦<ScriptTarget as Notifiable>⟧.verdict script.target)) script.settings script.events.items) }
+    ensures { IfOk result (λ v. v.items ≡ E.sent
+        (wrapped_serving script.settings (turned_over (routed upstream_turn (upstreams_under upstreams)))
+        (⟦<ScriptTarget as Notifiable>⟧.verdict script.target)) script.settings script.events.items) }
 {
     let forwarder = forwarder(alloc, upstreams)?;
     serve_single(alloc, script, forwarder)
@@ -110,7 +120,9 @@ fn serve_lines<E: Scripted>(
     script: UnservedScript<E>,
     service: ServiceLines,
 ) -> Result<Vec<Output>, OutOfMemory>
-    ensures { IfOk result (λ v. v.items ≡ E.sent (wrapped_serving script.settings (service_answers service) (⟦<ScriptTarget as Notifiable>⟧.verdict script.target)) script.settings script.events.items) }
+    ensures { IfOk result (λ v. v.items ≡ E.sent
+        (wrapped_serving script.settings (service_answers service) (⟦<ScriptTarget as Notifiable>⟧.verdict script.target))
+        script.settings script.events.items) }
 {
     match service {
         ServiceLines::Rules(rules) => E::serve_with(alloc, script, ScriptService::new(rules)),

@@ -211,7 +211,8 @@ fn record_lines(alloc: Global, text: &mut TextWriter, records: &[Record]) -> Res
 
 /// The lines of a zone and of its records.
 fn zone_lines(alloc: Global, text: &mut TextWriter, zone: &Zone) -> Result<(), OutOfMemory>
-    ensures { OnOk result (text.new ≡ text.old ++ flat_map line_of_words (words_of_apex zone.now.apex ∷ map words_of_record zone.now.records)) }
+    ensures { OnOk result (text.new ≡ text.old
+        ++ flat_map line_of_words (words_of_apex zone.now.apex ∷ map words_of_record zone.now.records)) }
 {
     text.name("zone")?;
     push_name(text, zone.apex())?;

@@ -35,7 +35,8 @@ fn push_number(target: &mut Vec<u8>, number: u16) -> Result<(), OutOfMemory>
 /// What stands between the name and the data: the type, the class IN, how long the record may be kept, and how many octets
 /// its data takes.
 fn push_fixed(target: &mut Vec<u8>, rtype: u16, ttl: u32, size: u16) -> Result<(), OutOfMemory>
-    ensures { OnOk result (target.new.items ≡ target.old.items ++ fixed_octets (record { rtype = rtype; class = 1; ttl = ttl; size = size })) }
+    ensures { OnOk result (target.new.items ≡ target.old.items
+        ++ fixed_octets (record { rtype = rtype; class = 1; ttl = ttl; size = size })) }
 {
     push_number(target, rtype)?;
     push_number(target, 1)?;

@@ -18,7 +18,8 @@ use Rattle.dns_secondary.specs.declared.watched.WatchedZone.{WatchedZone}
 
 -- what an SOA record says of copies of its zone (RFC 1035, section 3.3.13)
 abbrev pub timers_of : RecordData → Option SoaTimers
-timers_of (Soa mname rname serial refresh retry expire minimum) = Some (record { serial = serial; refresh = refresh; retry = retry; expire = expire })
+timers_of (Soa mname rname serial refresh retry expire minimum)
+    = Some (record { serial = serial; refresh = refresh; retry = retry; expire = expire })
 timers_of _ = None
 
 -- the address of the primary; the SOA record of the copy, where there is one; when the copy came or was found current last; since when

@@ -28,11 +28,13 @@ question_withheld served withheld (Some q) = is_withheld served withheld q.qname
 
 -- a query asks for a name whose nearest zone has no data
 abbrev pub asks_withheld : List (List (List ℕ)) → List (List (List ℕ)) → List ℕ → Bool
-asks_withheld served withheld o = nat_eq (header_of o).opcode query_opcode && question_withheld served withheld (first_of (questions_of o).0)
+asks_withheld served withheld o = nat_eq (header_of o).opcode query_opcode
+    && question_withheld served withheld (first_of (questions_of o).0)
 
 -- such a query is answered SERVFAIL (RFC 1035, section 4.1.1), and all else by the service inside
 abbrev pub withholding : {Meta : Type 0} → List (List (List ℕ)) → List (List (List ℕ)) → (Req Meta → ℕ → Answer) → Req Meta → ℕ → Answer
-withholding served withheld answer r k = if asks_withheld served withheld r.octets then own_reply (error_reply r.octets servfail) k else answer r k
+withholding served withheld answer r k = if asks_withheld served withheld r.octets then own_reply (error_reply r.octets servfail) k
+    else answer r k
 
 abbrev pub withholding_hint : {Meta : Type 0} → List (List (List ℕ)) → List (List (List ℕ)) → (Req Meta → Option ℕ) → Req Meta → Option ℕ
 withholding_hint served withheld hint r = if asks_withheld served withheld r.octets then hint_at_entry r else hint r

@@ -20,7 +20,8 @@ use Rattle.dns_workers.specs.Workers.{Outcome, WorkersServed, worker_seat}
 abbrev pub ServerKept : Serving → World → World → Type 0
 ServerKept answers start now = DatagramsByTheRules answers start now ⊎ (now ≡ where_known start now.known)
 
-module _ {D C J : Type 0} (sock_traffic : D → SockTraffic) (failed_sends : D → ℕ) (readings : C → List ClockReading) (noted : J → List Event) where
+module _ {D C J : Type 0} (sock_traffic : D → SockTraffic) (failed_sends : D → ℕ) (readings : C → List ClockReading)
+    (noted : J → List Event) where
   -- what the serving of a worker's datagrams tells, where its seat knows this
   abbrev pub worker_world : Worker D C J → Known → World
   worker_world w k = world (noted w.journal) (sock_traffic w.sock) (failed_sends w.sock) (readings w.clock) k
@@ -33,9 +34,12 @@ module _ {D C J : Type 0} (sock_traffic : D → SockTraffic) (failed_sends : D �
 
   -- How a host with workers was served over witnesses, of which this is seen. Each worker served datagrams from a seat of its own, and they
   -- kept to the rules.
-  pub record WorkersKept {A P : Type 0} (failed_receives : D → ℕ) (accept_traffic : A → AcceptTraffic) (failed : A → ℕ) (given : P → List SocketAddr) (refused : P → ℕ)
+  pub record WorkersKept {A P : Type 0} (failed_receives : D → ℕ) (accept_traffic : A → AcceptTraffic) (failed : A → ℕ)
+      (given : P → List SocketAddr) (refused : P → ℕ)
       (answers : Serving) (end : HostEnd) (count : ℕ) (k k' : Known) (h h' : WorkersHost A D C P J) : Type 0 where
-    pub served : WorkersServed (λ _. Unit {0}) sock_traffic failed_receives failed_sends (λ _. Unit {0}) readings (λ _. Unit {0}) noted answers count
+    pub served : WorkersServed (λ _. Unit {0}) sock_traffic failed_receives failed_sends (λ _. Unit {0}) readings
+        (λ _. Unit {0}) noted answers count
         (λ _. Unit {0}) accept_traffic failed (λ _. Unit {0}) given refused end k k' h h'
     pub kept : (i : ℕ) (o : Outcome) (w : Worker D C J) → i < length h.workers.items
-        → WorkerKept answers (slice_index_or served.outcomes i o).end count (worker_seat i k) (slice_index_or h.workers.items i w) (slice_index_or h'.workers.items i w)
+        → WorkerKept answers (slice_index_or served.outcomes i o).end count (worker_seat i k) (slice_index_or h.workers.items i w)
+        (slice_index_or h'.workers.items i w)

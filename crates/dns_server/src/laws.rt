@@ -19,7 +19,8 @@ ghost use Rattle.dns_trace.specs.InRange.{IsSettings};
 /// connection was closed, the text reads to these settings and to events for which its client, served under these settings, is sent
 /// the frames that the link was written, up to a part of one frame more after a write that failed or took too long.
 pub fn a_connection_replays()
-    ensures { (answers : Serving) (settings : Settings) (why : Why) (client : ℕ) (addr : SocketAddr) (look : Look) (text : List ℕ) (noted : List Event) (k k' : Known) (t t' : Traffic)
+    ensures { (answers : Serving) (settings : Settings) (why : Why) (client : ℕ) (addr : SocketAddr) (look : Look) (text : List ℕ)
+        (noted : List Event) (k k' : Known) (t t' : Traffic)
         → IsSettings settings → look.dgram ≡ settings.dgram → look.stream ≡ settings.stream → look.closed ≡ false
         → TraceReadsBack text noted → EndsSo answers (Closed why) client addr look (settings_event settings ∷ []) noted k k' t t'
         → Replays answers settings client why text t t' }

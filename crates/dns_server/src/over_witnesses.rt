@@ -114,7 +114,8 @@ where
     N::Future: Send,
     requires book { seat.book ≡ arc_value book.now }
     requires can_call { S.can_call service }
-    // All were served by the wrapped service. Or memory ran out before, in `wrap` too: then the book was shut down, and nothing else was done.
+    // All were served by the wrapped service. Or memory ran out before, in `wrap` too: then the book was shut down, and nothing
+    // else was done.
     ensures kept { OfHost (λ end. WorkersKept (λ d. d.seen.sock_traffic) (λ d. D.failed_sends d.sock) (λ c. c.seen.readings) (λ j. j.events)
         (λ d. D.failed_receives d.sock) (λ a. a.seen.accept_traffic) (λ a. A.faults a.accept) (λ p. p.seen.given) (λ p. P.faults p.spawner)
         (serving (replies settings.now (S.answer service) (verdict_on (N.verdict target))) (hint_left settings.now))

@@ -67,8 +67,10 @@ where
     requires book { seat.book ≡ arc_value book.now }
     requires can_call { IfOk made (λ s. T.can_call s) }
     ensures served { (answers : Serving) → IfOk made (λ s. answers ≡ serving (T.answer s) (T.hint s))
-        → OfHost (λ end. HostServed (host_seen A.accept_traffic P.given J.noted D.sock_traffic C.readings A.faults P.faults D.failed_receives D.failed_sends)
-        (accept_observed A.tells P.tells) (sock_observed D.tells C.tells J.tells) answers end count seat.known result.0.known host.old host.new) result.1 }
+        → OfHost (λ end. HostServed (host_seen A.accept_traffic P.given J.noted D.sock_traffic C.readings A.faults P.faults
+        D.failed_receives D.failed_sends)
+        (accept_observed A.tells P.tells) (sock_observed D.tells C.tells J.tells) answers end count seat.known result.0.known
+        host.old host.new) result.1 }
     ensures same { result.0.book ≡ seat.book }
 {
     match made {
@@ -108,8 +110,10 @@ where
     N::Future: Send,
     requires book { seat.book ≡ arc_value book.now }
     requires can_call { S.can_call service }
-    // Both were served by the wrapped service. Or memory ran out before, in `wrap` too: then the book was shut down, and nothing else was done.
-    ensures served { OfHost (λ end. HostServed (host_seen A.accept_traffic P.given J.noted D.sock_traffic C.readings A.faults P.faults D.failed_receives D.failed_sends)
+    // Both were served by the wrapped service. Or memory ran out before, in `wrap` too: then the book was shut down, and nothing
+    // else was done.
+    ensures served { OfHost (λ end. HostServed
+        (host_seen A.accept_traffic P.given J.noted D.sock_traffic C.readings A.faults P.faults D.failed_receives D.failed_sends)
         (accept_observed A.tells P.tells) (sock_observed D.tells C.tells J.tells)
         (serving (replies settings.now (S.answer service) (verdict_on (N.verdict target))) (hint_left settings.now))
         end count seat.known result.0.known host.old host.new) result.1 }

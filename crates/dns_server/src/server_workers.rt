@@ -132,7 +132,8 @@ where
     requires book { seat.book ≡ arc_value book.now }
     requires can_call { IfOk made (λ s. T.can_call s) }
     ensures served { (answers : Serving) → IfOk made (λ s. answers ≡ serving (T.answer s) (T.hint s))
-        → OfHost (λ end. WorkersServed D.tells D.sock_traffic D.failed_receives D.failed_sends C.tells C.readings J.tells J.noted answers count
+        → OfHost (λ end. WorkersServed D.tells D.sock_traffic D.failed_receives D.failed_sends C.tells C.readings J.tells J.noted
+        answers count
         A.tells A.accept_traffic A.faults P.tells P.given P.faults end seat.known result.0.known host.old host.new
         ⊎ (NeitherBegan end seat.known result.0.known × (host.new ≡ host.old))) result.1 }
     ensures cause { OfHost (λ end. RoseBy D.failed_receives D.failed_sends A.faults P.faults end host.old host.new) result.1 }
@@ -176,7 +177,8 @@ where
     N::Future: Send,
     requires book { seat.book ≡ arc_value book.now }
     requires can_call { S.can_call service }
-    // All were served by the wrapped service. Or memory ran out before, in `wrap` too: then the book was shut down, and nothing else was done.
+    // All were served by the wrapped service. Or memory ran out before, in `wrap` too: then the book was shut down, and nothing
+    // else was done.
     ensures served { OfHost (λ end. WorkersServed D.tells D.sock_traffic D.failed_receives D.failed_sends C.tells C.readings J.tells J.noted
         (serving (replies settings.now (S.answer service) (verdict_on (N.verdict target))) (hint_left settings.now)) count
         A.tells A.accept_traffic A.faults P.tells P.given P.faults end seat.known result.0.known host.old host.new

@@ -83,7 +83,8 @@ impl Recorder for TraceRecorder {
 
     /// Notes an event, as its line behind the text.
     fn note(&mut self, alloc: Global, event: &Event) -> Result<(), OutOfMemory>
-        ensures moves { Observed (self.new.said ≡ true) (self.old.said ≡ true) (NoteMoves result event.now (recorded self.old.writer) (recorded self.new.writer)) }
+        ensures moves { Observed (self.new.said ≡ true) (self.old.said ≡ true)
+            (NoteMoves result event.now (recorded self.old.writer) (recorded self.new.writer)) }
         ensures line { OnOk result (self.new.writer ≡ self.old.writer ++ event_text event.now) }
         ensures said { OnOk result (self.new.said ≡ (self.old.said && is_said event.now)) }
         ensures same { OnErr result ((self.new.writer ≡ self.old.writer) × (self.new.said ≡ self.old.said)) }

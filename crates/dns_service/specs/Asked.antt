@@ -40,7 +40,12 @@ cookie_in d = first_cookie (items_of (for_code 10 cookie_data) d)
 
 -- what is kept of an OPT record
 abbrev pub asked_record : OptState → AskedRecord
-asked_record s = record { size = s.head.size; version = s.head.version; sends_timeout = sends_timeout s.options; cookie = cookie_in s.options }
+asked_record s = record {
+  size = s.head.size;
+  version = s.head.version;
+  sends_timeout = sends_timeout s.options;
+  cookie = cookie_in s.options;
+}
 
 -- none, one record, or what is refused: two or more items, or a first one that is no record. The first record is kept.
 abbrev pub behind_record : AskedRecord → List (Option OptState) → AskedOpt
@@ -54,7 +59,13 @@ asked_opt (Some s ∷ more) = behind_record (asked_record s) more
 
 -- what is asked by octets that are a message
 abbrev pub asked_of : List ℕ → Asked
-asked_of o = record { id = (header_of o).id; rd = (header_of o).rd; opcode = (header_of o).opcode; qdcount = (counts_of o).qdcount; opt = asked_opt (opt_items o) }
+asked_of o = record {
+  id = (header_of o).id;
+  rd = (header_of o).rd;
+  opcode = (header_of o).opcode;
+  qdcount = (counts_of o).qdcount;
+  opt = asked_opt (opt_items o);
+}
 
 -- what is kept of the first item, where it is a record
 abbrev pub first_asked : AskedOpt → Option AskedRecord

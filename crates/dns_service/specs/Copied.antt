@@ -41,7 +41,8 @@ others_of (Ok rs) = Ok (other_than 41 rs)
 others_of (Err e) = Err e
 
 -- header and sections as a message, or the refusal of the foremost section
-abbrev pub gathered : Header → Result (List Question) ParseError → Result (List ResourceRecord) ParseError → Result (List ResourceRecord) ParseError → Result (List ResourceRecord) ParseError → Result Msg ParseError
+abbrev pub gathered : Header → Result (List Question) ParseError → Result (List ResourceRecord) ParseError
+    → Result (List ResourceRecord) ParseError → Result (List ResourceRecord) ParseError → Result Msg ParseError
 gathered h (Err e) answers authority additional = Err e
 gathered h (Ok qs) (Err e) authority additional = Err e
 gathered h (Ok qs) (Ok an) (Err e) additional = Err e
@@ -50,7 +51,8 @@ gathered h (Ok qs) (Ok an) (Ok ns) (Ok ar) = Ok (record { header = h; questions 
 
 -- the copy of octets that are a message, or the foremost refusal of a section or its data
 unfoldable pub copied : List ℕ → Result Msg ParseError
-copied o = gathered (header_of o) (whole_list (all_of (questions_of o))) (copied_records (all_of (standing_answers o))) (copied_records (all_of (standing_authority o))) (others_of (copied_records (all_of (standing_additional o))))
+copied o = gathered (header_of o) (whole_list (all_of (questions_of o))) (copied_records (all_of (standing_answers o)))
+    (copied_records (all_of (standing_authority o))) (others_of (copied_records (all_of (standing_additional o))))
 
 -- a vector of what is read is given, unless memory runs out
 abbrev pub GivesAll : {A : Type 0} → Result (Vec A Global) ParseError → Result (List A) ParseError → Type 0

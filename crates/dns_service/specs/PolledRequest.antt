@@ -26,4 +26,5 @@ HasStream (Stream stream) = Unit {0}
 -- a request has come to its stream and answers as it did, or an answer is taken that is pending
 abbrev pub ComesToStream : {F R : Type 0} → (F → ℕ → Answer) → (R → ℕ → Answer) → PolledRequest F R → PolledRequest F R → Bool → Type 0
 ComesToStream f r before after true = HasStream after × ((k : ℕ) → request_answer f r after k ≡ request_answer f r before k)
-ComesToStream f r before after false = (request_answer f r before 0 ≡ Polled.Pending) × ((k : ℕ) → request_answer f r after k ≡ request_answer f r before (suc k))
+ComesToStream f r before after false = (request_answer f r before 0 ≡ Polled.Pending)
+    × ((k : ℕ) → request_answer f r after k ≡ request_answer f r before (suc k))

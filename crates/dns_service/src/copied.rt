@@ -66,7 +66,9 @@ impl CopiedMessage {
     ) -> Result<CopiedMessage, ParseError>
         requires within { at ≤ length message.now }
         requires here { (answers_of message.now).1 ≡ Ok at }
-        ensures { GivesParsed result (gathered (header_of message.now) (Ok questions.items) (Ok answers.items) (copied_records (all_of (standing_authority message.now))) (others_of (copied_records (all_of (standing_additional message.now))))) }
+        ensures { GivesParsed result (gathered (header_of message.now) (Ok questions.items) (Ok answers.items)
+            (copied_records (all_of (standing_authority message.now)))
+            (others_of (copied_records (all_of (standing_additional message.now))))) }
     {
         let (authority, at) = authority_in(alloc, message, at)?;
         let additional = others_in(alloc, message, at)?;
@@ -134,7 +136,8 @@ fn questions_from(
     count: u16,
 ) -> Result<(Vec<Question>, usize), ParseError>
     requires { start ≤ length message.now }
-    ensures value { GivesSection result (whole_list (all_of (items_from (question_at message.now) count start))) (items_from (question_at message.now) count start).1 }
+    ensures value { GivesSection result (whole_list (all_of (items_from (question_at message.now) count start)))
+        (items_from (question_at message.now) count start).1 }
     ensures within { IfOk result (λ r. r.1 ≤ length message.now) }
 {
     let mut questions = Vec::new(alloc);
@@ -159,7 +162,8 @@ fn records_from(
     count: u16,
 ) -> Result<(Vec<CopiedRecord>, usize), ParseError>
     requires { start ≤ length message.now }
-    ensures value { GivesSection result (copied_records (all_of (items_from (standing_at message.now) count start))) (items_from (record_at message.now) count start).1 }
+    ensures value { GivesSection result (copied_records (all_of (items_from (standing_at message.now) count start)))
+        (items_from (record_at message.now) count start).1 }
     ensures within { IfOk result (λ r. r.1 ≤ length message.now) }
 {
     let mut records = Vec::new(alloc);

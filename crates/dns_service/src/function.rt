@@ -75,7 +75,8 @@ where
 
     ghost hint = { λ _. hint_at_entry };
 
-    ghost can_call = { λ s. T.IsAlwaysCallable s.closure × ((alloc : _) (r : _) (m : _) (x : _) → T.post s.closure alloc r m x → ForOk x (λ i. i ≡ G.item r.now m.now)) };
+    ghost can_call = { λ s. T.IsAlwaysCallable s.closure
+        × ((alloc : _) (r : _) (m : _) (x : _) → T.post s.closure alloc r m x → ForOk x (λ i. i ≡ G.item r.now m.now)) };
 
     fn call(&self, alloc: Global, request: &mut Request<()>) -> Result<Now<Once>, OutOfMemory> {
         let item = self.item(alloc, request)?;

@@ -14,7 +14,8 @@ pub fn poll_future<F: ReplyFuture<Stream = R>, R: ReplyStream>(
     alloc: Global,
     future: &mut F,
 ) -> Result<Polled<(R, Polled<Option<ServiceResult>>)>, OutOfMemory>
-    ensures pending { IfOk result (IfPending (F.answer future.old 0 ≡ Polled.Pending × ((k : ℕ) → F.answer future.new k ≡ F.answer future.old (suc k)))) }
+    ensures pending { IfOk result (IfPending
+        (F.answer future.old 0 ≡ Polled.Pending × ((k : ℕ) → F.answer future.new k ≡ F.answer future.old (suc k)))) }
     ensures ready { IfOk result (IfReady (λ p. (p.1 ≡ F.answer future.old 0) × ((k : ℕ) → R.answer p.0 k ≡ F.answer future.old (suc k)))) }
 {
     match future.poll(alloc)? {
@@ -55,7 +56,8 @@ fn poll_stream<F: ReplyFuture<Stream = R>, R: ReplyStream>(
 ) -> Result<Polled<Option<ServiceResult>>, OutOfMemory>
     requires { HasStream request.old }
     ensures now { IfOk result (λ p. p ≡ request_answer F.answer R.answer request.old 0) }
-    ensures later { OnOk result ((k : ℕ) → request_answer F.answer R.answer request.new k ≡ request_answer F.answer R.answer request.old (suc k)) }
+    ensures later { OnOk result ((k : ℕ) → request_answer F.answer R.answer request.new k
+        ≡ request_answer F.answer R.answer request.old (suc k)) }
 {
     match request {
         PolledRequest::Future(_) => unreachable!(),

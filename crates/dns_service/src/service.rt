@@ -208,7 +208,8 @@ pub trait ReplyFuture: Drop {
 
     /// A poll that is pending takes an answer, and one that is ready takes none. What is answered after that is left open.
     fn poll(&mut self, alloc: Global) -> Result<Polled<Self::Stream>, OutOfMemory>
-        ensures pending { IfOk result (IfPending (answer self.old 0 ≡ Polled.Pending × ((k : ℕ) → answer self.new k ≡ answer self.old (suc k)))) }
+        ensures pending { IfOk result (IfPending
+            (answer self.old 0 ≡ Polled.Pending × ((k : ℕ) → answer self.new k ≡ answer self.old (suc k)))) }
         ensures ready { IfOk result (IfReady (λ s. (k : ℕ) → Self.Stream.answer s k ≡ answer self.old k)) };
 }
 
@@ -231,7 +232,8 @@ pub trait Service<Meta>: Drop {
     fn call(&self, alloc: Global, request: &mut Request<Meta>) -> Result<Self::Future, OutOfMemory>
         requires { can_call self.now }
         ensures answers { IfOk result (λ f. (k : ℕ) → Self.Future.answer f k ≡ answer self.now request.old k) }
-        ensures kept { OnOk result (request.new ≡ record request.old { transport = hinted (hint self.now request.old) request.old.transport; reserved = request.new.reserved }) }
+        ensures kept { OnOk result (request.new ≡ record request.old
+            { transport = hinted (hint self.now request.old) request.old.transport; reserved = request.new.reserved }) }
         ensures refused { OnErr result (request.new ≡ request.old) };
 }
 

@@ -31,7 +31,8 @@ pub trait SharedService: Drop {
     fn call(&self, alloc: Global, request: &mut Request<()>) -> Result<Self::Future, OutOfMemory>
         requires { can_call self.now }
         ensures answers { IfOk result (λ f. (k : ℕ) → Self.Future.answer f k ≡ answer self.now request.old k) }
-        ensures kept { OnOk result (request.new ≡ record request.old { transport = hinted (hint self.now request.old) request.old.transport; reserved = request.new.reserved }) }
+        ensures kept { OnOk result (request.new ≡ record request.old
+            { transport = hinted (hint self.now request.old) request.old.transport; reserved = request.new.reserved }) }
         ensures refused { OnErr result (request.new ≡ request.old) };
 }
 

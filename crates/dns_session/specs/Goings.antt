@@ -82,7 +82,8 @@ IsLeft number c (WindsUp why) s = IsFlushing number c s
 IsLeft number c (Ends why) s = IsClosed number false s
 
 abbrev pub LeadsOn : FlushingConnection → FlushingConnection → Outcome → (Slate → Effect) → Type 0
-LeadsOn old new outcome after = (number : ℕ) (s : Slate) → IsFlushing number old s → (outputs_of number outcome ≡ (after s).1) × IsLeft number new outcome (after s).0
+LeadsOn old new outcome after = (number : ℕ) (s : Slate) → IsFlushing number old s
+    → (outputs_of number outcome ≡ (after s).1) × IsLeft number new outcome (after s).0
 
 -- a response is refused at a moment
 abbrev pub refusing : {W R F : Type 0} → ℕ → OpenConnection W R F → List ℕ → OpenConnection W R F
@@ -91,15 +92,19 @@ refusing at c o = record c { invoker = offered (record c.invoker { at = at }) (f
 module _ {R F : Type 0} (answer : PolledRequest F R → ℕ → Answer) (answers : Serving) where
   -- at every slate of the exchange, the outputs are those that are told, and it is the exchange of the slate after
   abbrev pub Exchanges : ℕ → Option (KeptRequest F R) → Option (KeptRequest F R) → List Output → (Slate → Effect) → Type 0
-  Exchanges number old new outs after = (s : Slate) → IsExchange answer answers number old s → (outs ≡ (after s).1) × IsExchange answer answers number new (after s).0
+  Exchanges number old new outs after = (s : Slate) → IsExchange answer answers number old s
+      → (outs ≡ (after s).1) × IsExchange answer answers number new (after s).0
 
   -- whatever the number of an exchange: what is kept of it, and the octets that its client is sent, as it begins by a datagram that was
   -- cut, and by a Turn of its one request
   abbrev pub BeginsAs : SocketAddr → ℕ → ℕ → Dgram → List ℕ → Option (KeptRequest F R) → Option (List ℕ) → Type 0
-  BeginsAs addr at secs dgram o new octets = (number : ℕ) (s : Slate) → IsUnused s → s.conf.dgram ≡ dgram → (datagrams_to number octets ≡ at_once number s.conf.dgram o) × IsExchange answer answers number new (exchange number addr at secs o s)
+  BeginsAs addr at secs dgram o new octets = (number : ℕ) (s : Slate) → IsUnused s → s.conf.dgram ≡ dgram
+      → (datagrams_to number octets ≡ at_once number s.conf.dgram o)
+      × IsExchange answer answers number new (exchange number addr at secs o s)
 
   abbrev pub TurnsAs : Option (KeptRequest F R) → Option (KeptRequest F R) → Option (List ℕ) → Type 0
-  TurnsAs old new octets = (number : ℕ) (e : Event) → e.kind ≡ Turn 0 → Exchanges number old new (datagrams_to number octets) (rule answers e)
+  TurnsAs old new octets = (number : ℕ) (e : Event) → e.kind ≡ Turn 0
+      → Exchanges number old new (datagrams_to number octets) (rule answers e)
 
   -- nothing changes any more at the slate of an exchange of which this is kept
   abbrev pub SpentWith : Bool → Option (KeptRequest F R) → Type 0
@@ -108,17 +113,20 @@ module _ {R F : Type 0} (answer : PolledRequest F R → ℕ → Answer) (answers
   module _ {W : Type 0} where
     -- at every slate that the old state stands for, the outputs are those that are told, and the new one stands for the slate after
     abbrev pub StateGoes : ℕ → State W R F → State W R F → List Output → (Slate → Effect) → Type 0
-    StateGoes number old new outs after = (s : Slate) → StandsIn answer answers number old s → (outs ≡ (after s).1) × StandsIn answer answers number new (after s).0
+    StateGoes number old new outs after = (s : Slate) → StandsIn answer answers number old s
+        → (outs ≡ (after s).1) × StandsIn answer answers number new (after s).0
 
     -- at every slate that an open connection stands for, its outcome gives the outputs that are told and the slate
     -- after
     abbrev pub Leads : OpenConnection W R F → OpenConnection W R F → Outcome → (Slate → Effect) → Type 0
-    Leads old new outcome after = (number : ℕ) (s : Slate) → IsOpen answer answers number old s → (outputs_of number outcome ≡ (after s).1) × StandsIn answer answers number (state_behind (Is_open new) outcome) (after s).0
+    Leads old new outcome after = (number : ℕ) (s : Slate) → IsOpen answer answers number old s
+        → (outputs_of number outcome ≡ (after s).1) × StandsIn answer answers number (state_behind (Is_open new) outcome) (after s).0
 
     -- a request is made, unless most of them were made
     pub record Asks (old new : OpenConnection W R F) (r : Req (Unit {0})) : Type 0 where
       pub others : new ≡ record old { unfinished = new.unfinished }
-      pub made : (rs : List SlateRequest) → KeepsAll answer answers old.transactions old.unfinished rs → KeepsAll answer answers new.transactions new.unfinished (if nat_lt (length rs) most_requests then rs ++ unpolled r ∷ [] else rs)
+      pub made : (rs : List SlateRequest) → KeepsAll answer answers old.transactions old.unfinished rs
+          → KeepsAll answer answers new.transactions new.unfinished (if nat_lt (length rs) most_requests then rs ++ unpolled r ∷ [] else rs)
 
     -- a message is taken: a response is refused, and a query asked
     pub record TakesMessage (at secs : ℕ) (old new : OpenConnection W R F) (o : List ℕ) : Type 0 where
@@ -128,7 +136,9 @@ module _ {R F : Type 0} (answer : PolledRequest F R → ℕ → Answer) (answers
     -- one frame is taken, and what is left to be taken, at some slate of the connection, is all that was
     pub record TakesFrame (at secs : ℕ) (old new : OpenConnection W R F) : Type 0 where
       pub less : length new.framer < length old.framer
-      pub goes : (number : ℕ) (s : Slate) → IsOpen answer answers number old s → (t : Slate) × IsOpen answer answers number new t × (take_frames at secs (frames new.framer) t ≡ take_frames at secs (frames old.framer) s)
+      pub goes : (number : ℕ) (s : Slate) → IsOpen answer answers number old s
+          → (t : Slate) × IsOpen answer answers number new t
+          × (take_frames at secs (frames new.framer) t ≡ take_frames at secs (frames old.framer) s)
 
     -- a frame is taken from octets as they came, so many of them with its length; nothing is kept before them
     pub record TakesLent (at secs : ℕ) (old new : OpenConnection W R F) (o : List ℕ) (n : ℕ) : Type 0 where

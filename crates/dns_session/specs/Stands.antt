@@ -28,7 +28,8 @@ KeepsBy P (Some q) (Some r) = P q r
 
 -- what is kept of an exchange's request that isn't done: a polled state that answers from the polls made on, its message, and how
 -- many octets a reply may take
-pub record IsKeptOfRequest {F R : Type 0} (answer : PolledRequest F R → ℕ → Answer) (answers : Serving) (q : KeptRequest F R) (r : SlateRequest) : Type 0 where
+pub record IsKeptOfRequest {F R : Type 0} (answer : PolledRequest F R → ℕ → Answer) (answers : Serving) (q : KeptRequest F R)
+    (r : SlateRequest) : Type 0 where
   pub going : r.done ≡ false
   pub polled : (k : ℕ) → answer q.polled k ≡ answers.answer r.request (r.polls + k)
   pub message : arc_value q.message ≡ r.request.octets
@@ -39,14 +40,16 @@ Keeps answer answers kept r = KeepsBy (IsKeptOfRequest answer answers) kept r
 
 -- what is kept of a connection's request that isn't done: the same without a limit, its reply that waits for room, and whether it is
 -- in a transaction
-pub record IsGoing {F R : Type 0} (answer : PolledRequest F R → ℕ → Answer) (answers : Serving) (q : ConnectionRequest F R) (r : SlateRequest) : Type 0 where
+pub record IsGoing {F R : Type 0} (answer : PolledRequest F R → ℕ → Answer) (answers : Serving) (q : ConnectionRequest F R)
+    (r : SlateRequest) : Type 0 where
   pub going : r.done ≡ false
   pub polled : (k : ℕ) → answer q.polled k ≡ answers.answer r.request (r.polls + k)
   pub message : arc_value q.message ≡ r.request.octets
   pub held : q.held ≡ r.held
   pub status : q.status ≡ r.status
 
-abbrev pub KeepsGoing : {F R : Type 0} → (PolledRequest F R → ℕ → Answer) → Serving → Option (ConnectionRequest F R) → Option SlateRequest → Type 0
+abbrev pub KeepsGoing : {F R : Type 0} → (PolledRequest F R → ℕ → Answer) → Serving → Option (ConnectionRequest F R)
+    → Option SlateRequest → Type 0
 KeepsGoing answer answers kept r = KeepsBy (IsGoing answer answers) kept r
 
 -- what is kept of an exchange's requests, of which there is one at most

@@ -16,7 +16,8 @@ module _ {F R : Type 0} (answer : PolledRequest F R → ℕ → Answer) where
   invoker_after q i = after_answer connection_invoking (arc_value q.message) (answer q.polled 0) (begun_with q.status i)
 
   -- the request is past its first answer, and what that told and left is its own and the connection's
-  pub record IsPolledBy (q : ConnectionRequest F R) (i : ConnectionInvoker) (done : Bool) (q' : ConnectionRequest F R) (i' : ConnectionInvoker) : Type 0 where
+  pub record IsPolledBy (q : ConnectionRequest F R) (i : ConnectionInvoker) (done : Bool) (q' : ConnectionRequest F R)
+      (i' : ConnectionInvoker) : Type 0 where
     pub polled : (k : ℕ) → answer q'.polled k ≡ answer q.polled (suc k)
     pub message : q'.message ≡ q.message
     pub status : q'.status ≡ (invoker_after q i).status
@@ -27,12 +28,14 @@ module _ {F R : Type 0} (answer : PolledRequest F R → ℕ → Answer) where
     pub ended : done ≡ ends (answer q.polled 0)
 
   -- a frame that was held is queued, where there is room, and nothing is polled
-  pub record IsHeldOn (m : List ℕ) (q : ConnectionRequest F R) (i : ConnectionInvoker) (done : Bool) (q' : ConnectionRequest F R) (i' : ConnectionInvoker) : Type 0 where
+  pub record IsHeldOn (m : List ℕ) (q : ConnectionRequest F R) (i : ConnectionInvoker) (done : Bool) (q' : ConnectionRequest F R)
+      (i' : ConnectionInvoker) : Type 0 where
     pub request : q' ≡ (if finds_room i then record q { held = None } else q)
     pub invoker : i' ≡ offered i m
     pub ended : done ≡ false
 
-  abbrev pub TurnsBy : Option (List ℕ) → ConnectionRequest F R → ConnectionInvoker → Bool → ConnectionRequest F R → ConnectionInvoker → Type 0
+  abbrev pub TurnsBy : Option (List ℕ) → ConnectionRequest F R → ConnectionInvoker → Bool → ConnectionRequest F R
+      → ConnectionInvoker → Type 0
   TurnsBy None q i done q' i' = IsPolledBy q i done q' i'
   TurnsBy (Some m) q i done q' i' = IsHeldOn m q i done q' i'
 
@@ -46,7 +49,8 @@ module _ {F R : Type 0} (answer : PolledRequest F R → ℕ → Answer) where
   LetGo false q new = StaysOn q new
 
   -- the request turns, and is in a transaction before and after that, or not
-  pub record TurnsTo (q : ConnectionRequest F R) (i : ConnectionInvoker) (was now : Bool) (new : Option (ConnectionRequest F R)) (i' : ConnectionInvoker) : Type 0 where
+  pub record TurnsTo (q : ConnectionRequest F R) (i : ConnectionInvoker) (was now : Bool) (new : Option (ConnectionRequest F R))
+      (i' : ConnectionInvoker) : Type 0 where
     pub after : ConnectionRequest F R
     pub done : Bool
     pub turns : TurnsBy q.held q i done after i'
@@ -54,6 +58,7 @@ module _ {F R : Type 0} (answer : PolledRequest F R → ℕ → Answer) where
     pub before : was ≡ is_in_transaction q.status
     pub behind : now ≡ (not done && is_in_transaction after.status)
 
-  abbrev pub TurnedAt : Option (ConnectionRequest F R) → ConnectionInvoker → Bool → Bool → Option (ConnectionRequest F R) → ConnectionInvoker → Type 0
+  abbrev pub TurnedAt : Option (ConnectionRequest F R) → ConnectionInvoker → Bool → Bool → Option (ConnectionRequest F R)
+      → ConnectionInvoker → Type 0
   TurnedAt None i was now new i' = (was ≡ false) × (now ≡ false) × (new ≡ None) × (i' ≡ i)
   TurnedAt (Some q) i was now new i' = TurnsTo q i was now new i'

@@ -82,7 +82,11 @@ module _ (answers : Serving) where
   exchange_turn k None s = (s, [])
   exchange_turn k (Some r) s =
       if r.done then (s, [])
-      else (with_request k (polled (answers.answer r.request r.polls) r) s, sent_at_once s.client (sent_for r.request (answers.answer r.request r.polls)))
+      else (
+        with_request k (polled (answers.answer r.request r.polls) r) s,
+        sent_at_once s.client
+            (sent_for r.request (answers.answer r.request r.polls)),
+      )
 
   -- one poll of a request of a connection, whose replies have no limit: what its answer tells is heard, and its reply is queued
   abbrev pub poll_request : ℕ → ℕ → SlateRequest → Slate → Slate

@@ -84,7 +84,8 @@ impl<W: SharedService> ClientCore<W> {
         requires running { look.now.closed ≡ false }
         ensures begun { IfOk result (λ p. (s : Slate) → IsUnused s → s.conf ≡ conf_of look.now
             → (p.1.items ≡ (datagram client addr at secs octets.now s).1)
-            × Stands (request_answer W.Future.answer W.Stream.answer) (serving (W.answer service.now) (W.hint service.now)) p.0 (datagram client addr at secs octets.now s).0) }
+            × Stands (request_answer W.Future.answer W.Stream.answer) (serving (W.answer service.now) (W.hint service.now)) p.0
+            (datagram client addr at secs octets.now s).0) }
         ensures version { IfOk result (λ p. p.0.version ≡ look.now.version) }
     {
         let octets = cut_datagram(alloc, octets)?;
@@ -99,7 +100,8 @@ impl<W: SharedService> ClientCore<W> {
         version: u64,
         begun: BegunExchange<W>,
     ) -> Result<(Self, Vec<Output>), OutOfMemory>
-        ensures { IfOk result (λ p. (p.0 ≡ record { client = client; state = State.Exchange begun.0; version = version }) × (p.1.items ≡ datagrams_to client begun.1)) }
+        ensures { IfOk result (λ p. (p.0 ≡ record { client = client; state = State.Exchange begun.0; version = version })
+            × (p.1.items ≡ datagrams_to client begun.1)) }
     {
         let (unfinished, sent) = begun;
         let outs = datagrams_to(alloc, client, sent)?;
@@ -141,7 +143,8 @@ impl<W: SharedService> ClientCore<W> {
     ) -> Result<Vec<Output>, OutOfMemory>
         requires { W.can_call service.now }
         // At each slate that the core stands for it sends what the rule says, and stands for the slate that the rule says.
-        ensures follows { IfOk result (λ outs. GoesAs (request_answer W.Future.answer W.Stream.answer) (serving (W.answer service.now) (W.hint service.now)) self.old self.new outs.items
+        ensures follows { IfOk result (λ outs. GoesAs (request_answer W.Future.answer W.Stream.answer)
+            (serving (W.answer service.now) (W.hint service.now)) self.old self.new outs.items
             (rule (serving (W.answer service.now) (W.hint service.now)) event.now)) }
         ensures client { self.new.client ≡ self.old.client }
         ensures version { self.new.version ≡ self.old.version }
@@ -204,7 +207,8 @@ impl<W: SharedService> ClientCore<W> {
     /// An open connection hears configurations, where their version is new.
     fn apply_config(&mut self, look: &Look)
         ensures follows { (answers : Serving)
-            → GoesAs (request_answer W.Future.answer W.Stream.answer) answers self.old self.new [] (λ s. (slate_after answers s (new_configurations self.old.version look.now), [])) }
+            → GoesAs (request_answer W.Future.answer W.Stream.answer) answers self.old self.new []
+            (λ s. (slate_after answers s (new_configurations self.old.version look.now), [])) }
         ensures client { self.new.client ≡ self.old.client }
         ensures version { self.new.version ≡ look.now.version }
         ensures lost { IsLost self.old → IsLost self.new }
@@ -223,7 +227,8 @@ impl<W: SharedService> ClientCore<W> {
     pub fn saw(&mut self, alloc: Global, look: &Look) -> Result<Vec<Output>, OutOfMemory>
         // At each slate that the core stands for, the look's news do what the rules say.
         ensures follows { IfOk result (λ outs. (answers : Serving)
-            → GoesAs (request_answer W.Future.answer W.Stream.answer) answers self.old self.new outs.items (look_effect answers self.old.version look.now)) }
+            → GoesAs (request_answer W.Future.answer W.Stream.answer) answers self.old self.new outs.items
+            (look_effect answers self.old.version look.now)) }
         ensures client { self.new.client ≡ self.old.client }
         ensures version { self.new.version ≡ look.now.version }
         // Want of memory, and what comes after it.
@@ -297,7 +302,8 @@ impl<W: SharedService> ClientCore<W> {
     pub fn front_frame(&self) -> Option<&[u8]>
         ensures value { option_map (λ m. m.now) result ≡ slice_get (waiting self.now.state) 0 }
         ensures queue { (answers : Serving) (s : Slate)
-            → Stands (request_answer W.Future.answer W.Stream.answer) answers self.now s → option_map (λ m. m.now) result ≡ slice_get s.queue 0 }
+            → Stands (request_answer W.Future.answer W.Stream.answer) answers self.now s
+            → option_map (λ m. m.now) result ≡ slice_get s.queue 0 }
         ensures lost { IsLost self.now → result ≡ None }
     {
         match &self.state {
@@ -311,7 +317,8 @@ impl<W: SharedService> ClientCore<W> {
     pub fn write_timeout(&self) -> u64
         ensures value { result ≡ write_limit self.now.state }
         ensures timeout { (answers : Serving) (s : Slate)
-            → Stands (request_answer W.Future.answer W.Stream.answer) answers self.now s → 1 ≤ length s.queue → result ≡ s.connection.response_write_timeout }
+            → Stands (request_answer W.Future.answer W.Stream.answer) answers self.now s → 1 ≤ length s.queue
+            → result ≡ s.connection.response_write_timeout }
     {
         match &self.state {
             State::Open(connection) => connection.write_timeout(),

@@ -54,7 +54,8 @@ impl<W: SharedService> OpenConnection<W> {
         at: u64,
         config: &StreamConfig,
     ) -> Result<Self, OutOfMemory>
-        ensures { IfOk result (λ c. (answers : Serving) (client : ℕ) (s : Slate) → IsUnused s → s.conf.over ≡ false → s.conf.stream ≡ config.now
+        ensures { IfOk result (λ c. (answers : Serving) (client : ℕ) (s : Slate) → IsUnused s → s.conf.over ≡ false
+            → s.conf.stream ≡ config.now
             → IsOpen (request_answer W.Future.answer W.Stream.answer) answers client c (opened client addr at s)) }
     {
         let config = config.connection_config();
@@ -72,7 +73,8 @@ impl<W: SharedService> OpenConnection<W> {
 
     /// Takes a new configuration. The queue's bound stays, and so does what was spent of the response budget.
     pub fn reconfigure(&mut self, config: &ConnectionConfig)
-        ensures { (answers : Serving) → Leads (request_answer W.Future.answer W.Stream.answer) answers self.old self.new Outcome.Nothing (λ s. (reconfigured config.now s, [])) }
+        ensures { (answers : Serving) → Leads (request_answer W.Future.answer W.Stream.answer) answers self.old self.new
+            Outcome.Nothing (λ s. (reconfigured config.now s, [])) }
     {
         self.invoker.idle_timeout = config.idle_timeout();
         self.invoker.budget.reconfigure(config);
@@ -98,7 +100,8 @@ impl<W: SharedService> OpenConnection<W> {
     /// Makes a request, unless 2^64 - 1 of them were made.
     fn ask(&mut self, alloc: Global, service: &W, request: Request<()>) -> Result<(), OutOfMemory>
         requires { W.can_call service.now }
-        ensures { OnOk result (Asks (request_answer W.Future.answer W.Stream.answer) (serving (W.answer service.now) (W.hint service.now)) self.old self.new request) }
+        ensures { OnOk result (Asks (request_answer W.Future.answer W.Stream.answer)
+            (serving (W.answer service.now) (W.hint service.now)) self.old self.new request) }
     {
         if self.unfinished.count() == u64::MAX {
             return Ok(());
@@ -110,7 +113,8 @@ impl<W: SharedService> OpenConnection<W> {
     /// Keeps a request under its number.
     fn keep(&mut self, kept: ConnectionRequest<W::Future, W::Stream>) -> Result<(), OutOfMemory>
         requires { self.old.unfinished.count < 18446744073709551615 }
-        ensures { OnOk result ((answers : Serving) (r : Req (Unit {0})) → IsGoing (request_answer W.Future.answer W.Stream.answer) answers kept (unpolled r)
+        ensures { OnOk result ((answers : Serving) (r : Req (Unit {0}))
+            → IsGoing (request_answer W.Future.answer W.Stream.answer) answers kept (unpolled r)
             → Asks (request_answer W.Future.answer W.Stream.answer) answers self.old self.new r) }
     {
         self.unfinished.enter(kept)
@@ -137,7 +141,8 @@ impl<W: SharedService> OpenConnection<W> {
     /// A turn of a request at a moment: a reply that is held is queued where there is room, or else the request is polled once.
     fn turn(&mut self, alloc: Global, at: u64, request: u64) -> Result<Outcome, OutOfMemory>
         ensures { IfOk result (λ outcome. (answers : Serving)
-            → Leads (request_answer W.Future.answer W.Stream.answer) answers self.old self.new outcome (λ s. (turn answers at request (slice_get s.requests request) s, []))) }
+            → Leads (request_answer W.Future.answer W.Stream.answer) answers self.old self.new outcome
+            (λ s. (turn answers at request (slice_get s.requests request) s, []))) }
     {
         self.invoker.set_moment(at);
         let (was, now) = turn_at(alloc, &mut self.unfinished, &mut self.invoker, request)?;
@@ -154,7 +159,8 @@ impl<W: SharedService> OpenConnection<W> {
         secs: u64,
     ) -> Result<Outcome, OutOfMemory>
         requires { W.can_call service.now }
-        ensures { IfOk result (λ outcome. Leads (request_answer W.Future.answer W.Stream.answer) (serving (W.answer service.now) (W.hint service.now)) self.old self.new outcome
+        ensures { IfOk result (λ outcome. Leads (request_answer W.Future.answer W.Stream.answer)
+            (serving (W.answer service.now) (W.hint service.now)) self.old self.new outcome
             (λ s. take_frames at secs (frames self.old.framer) s)) }
     {
         loop {
@@ -174,8 +180,11 @@ impl<W: SharedService> OpenConnection<W> {
     ) -> Result<Option<Outcome>, OutOfMemory>
         requires { W.can_call service.now }
         ensures { IfOk result (λ outcome. MatchOption outcome
-            (TakesFrame (request_answer W.Future.answer W.Stream.answer) (serving (W.answer service.now) (W.hint service.now)) at secs self.old self.new)
-            (λ outcome. Leads (request_answer W.Future.answer W.Stream.answer) (serving (W.answer service.now) (W.hint service.now)) self.old self.new outcome (λ s. take_frames at secs (frames self.old.framer) s))) }
+            (TakesFrame (request_answer W.Future.answer W.Stream.answer)
+            (serving (W.answer service.now) (W.hint service.now)) at secs self.old self.new)
+            (λ outcome. Leads (request_answer W.Future.answer W.Stream.answer)
+            (serving (W.answer service.now) (W.hint service.now)) self.old self.new outcome
+            (λ s. take_frames at secs (frames self.old.framer) s))) }
     {
         let Some(frame) = self.framer.next(alloc)? else {
             return Ok(Some(Outcome::Nothing));
@@ -194,7 +203,8 @@ impl<W: SharedService> OpenConnection<W> {
     ) -> Result<Option<Outcome>, OutOfMemory>
         requires { W.can_call service.now }
         ensures { IfOk result (λ outcome. MatchOption outcome
-            ((12 ≤ length frame.items) × TakesMessage (request_answer W.Future.answer W.Stream.answer) (serving (W.answer service.now) (W.hint service.now)) at secs (record self.old { timer = at }) self.new frame.items)
+            ((12 ≤ length frame.items) × TakesMessage (request_answer W.Future.answer W.Stream.answer)
+            (serving (W.answer service.now) (W.hint service.now)) at secs (record self.old { timer = at }) self.new frame.items)
             (λ outcome. (outcome ≡ Outcome.Ends Why.Short) × (length frame.items < 12))) }
     {
         let Ok(message) = Message::from_octets(frame) else {
@@ -215,7 +225,8 @@ impl<W: SharedService> OpenConnection<W> {
         message: Message,
     ) -> Result<(), OutOfMemory>
         requires { W.can_call service.now }
-        ensures ok { OnOk result (TakesMessage (request_answer W.Future.answer W.Stream.answer) (serving (W.answer service.now) (W.hint service.now)) at secs self.old self.new message) }
+        ensures ok { OnOk result (TakesMessage (request_answer W.Future.answer W.Stream.answer)
+            (serving (W.answer service.now) (W.hint service.now)) at secs self.old self.new message) }
         ensures err { OnErr result ((header_of message).qr ≡ true → finds_room (record self.old.invoker { at = at }) ≡ true) }
     {
         if message.header().qr {
@@ -234,7 +245,9 @@ impl<W: SharedService> OpenConnection<W> {
         message: Message,
     ) -> Result<(), OutOfMemory>
         requires { W.can_call service.now }
-        ensures { OnOk result (Asks (request_answer W.Future.answer W.Stream.answer) (serving (W.answer service.now) (W.hint service.now)) self.old self.new (request_of_frame self.old.invoker.idle_timeout self.old.addr at secs message)) }
+        ensures { OnOk result (Asks (request_answer W.Future.answer W.Stream.answer)
+            (serving (W.answer service.now) (W.hint service.now)) self.old self.new
+            (request_of_frame self.old.invoker.idle_timeout self.old.addr at secs message)) }
     {
         let idle_timeout = self.invoker.idle_timeout;
         let request = frame_request(alloc, idle_timeout, self.addr, at, secs, message)?;
@@ -251,7 +264,8 @@ impl<W: SharedService> OpenConnection<W> {
         octets: &[u8],
     ) -> Result<Outcome, OutOfMemory>
         requires { W.can_call service.now }
-        ensures { IfOk result (λ outcome. Leads (request_answer W.Future.answer W.Stream.answer) (serving (W.answer service.now) (W.hint service.now)) self.old self.new outcome
+        ensures { IfOk result (λ outcome. Leads (request_answer W.Future.answer W.Stream.answer)
+            (serving (W.answer service.now) (W.hint service.now)) self.old self.new outcome
             (λ s. piece at secs octets.now s)) }
     {
         if self.framer.is_empty() {
@@ -295,7 +309,8 @@ impl<W: SharedService> OpenConnection<W> {
     /// Is to be closed: at once, or once what waits is written, whatever the server's configurations are then.
     pub fn wind_up(&self, why: Why) -> Outcome
         ensures { (answers : Serving) (conf : Slate → Conf)
-            → Leads (request_answer W.Future.answer W.Stream.answer) answers self.now self.now result (λ s. wind_up why s.queue (with_conf (conf s) s)) }
+            → Leads (request_answer W.Future.answer W.Stream.answer) answers self.now self.now result
+            (λ s. wind_up why s.queue (with_conf (conf s) s)) }
     {
         if self.invoker.queue.is_empty() {
             return Outcome::Ends(why);
@@ -348,14 +363,16 @@ impl<W: SharedService> OpenConnection<W> {
     /// The number of the first request behind the one of a number that isn't done.
     pub fn next_unfinished(&self, request: u64) -> Option<u64>
         ensures { (answers : Serving) (client : ℕ) (s : Slate)
-            → IsOpen (request_answer W.Future.answer W.Stream.answer) answers client self.now s → result ≡ next_unfinished request s.requests }
+            → IsOpen (request_answer W.Future.answer W.Stream.answer) answers client self.now s
+            → result ≡ next_unfinished request s.requests }
     {
         self.unfinished.next(request)
     }
 
     /// One event of the connection that changes nothing of what is kept.
     fn step_unchanged(&self, event: &Event) -> Outcome
-        ensures { changes_kept event.now.kind ≡ false → (answers : Serving) → Leads (request_answer W.Future.answer W.Stream.answer) answers self.now self.now result (rule answers event.now) }
+        ensures { changes_kept event.now.kind ≡ false → (answers : Serving)
+            → Leads (request_answer W.Future.answer W.Stream.answer) answers self.now self.now result (rule answers event.now) }
     {
         match &event.kind {
             EventKind::Tick => self.tick(event.at),
@@ -372,7 +389,8 @@ impl<W: SharedService> OpenConnection<W> {
 
     /// One event of the connection that takes no memory.
     fn step_at_once(&mut self, event: &Event) -> Outcome
-        ensures { takes_memory event.now.kind ≡ false → (answers : Serving) → Leads (request_answer W.Future.answer W.Stream.answer) answers self.old self.new result (rule answers event.now) }
+        ensures { takes_memory event.now.kind ≡ false → (answers : Serving)
+            → Leads (request_answer W.Future.answer W.Stream.answer) answers self.old self.new result (rule answers event.now) }
     {
         match &event.kind {
             EventKind::Write { took } => self.write(event.at, *took),
@@ -392,7 +410,8 @@ impl<W: SharedService> OpenConnection<W> {
         event: &Event,
     ) -> Result<Outcome, OutOfMemory>
         requires { W.can_call service.now }
-        ensures { IfOk result (λ outcome. Leads (request_answer W.Future.answer W.Stream.answer) (serving (W.answer service.now) (W.hint service.now)) self.old self.new outcome
+        ensures { IfOk result (λ outcome. Leads (request_answer W.Future.answer W.Stream.answer)
+            (serving (W.answer service.now) (W.hint service.now)) self.old self.new outcome
             (rule (serving (W.answer service.now) (W.hint service.now)) event.now)) }
     {
         match &event.kind {

@@ -41,7 +41,8 @@ pub fn ask<W: SharedService>(
     request: Request<()>,
 ) -> Result<ConnectionRequest<W::Future, W::Stream>, OutOfMemory>
     requires { W.can_call service.now }
-    ensures answers { IfOk result (λ q. (k : ℕ) → request_answer W.Future.answer W.Stream.answer q.polled k ≡ W.answer service.now request k) }
+    ensures answers { IfOk result (λ q. (k : ℕ)
+        → request_answer W.Future.answer W.Stream.answer q.polled k ≡ W.answer service.now request k) }
     ensures message { IfOk result (λ q. arc_value q.message ≡ request.octets) }
     ensures status { IfOk result (λ q. q.status ≡ InvokerStatus.Normal) }
     ensures held { IfOk result (λ q. q.held ≡ None) }
@@ -82,7 +83,8 @@ where
     /// Queues the reply that is held, where there is room now. Nothing is polled.
     fn try_held(&mut self, held: Octets, invoker: &mut ConnectionInvoker) -> bool
         requires { self.old.held ≡ None }
-        ensures { IsHeldOn (request_answer F.answer R.answer) held (record self.old { held = Some held }) invoker.old result self.new invoker.new }
+        ensures { IsHeldOn (request_answer F.answer R.answer) held
+            (record self.old { held = Some held }) invoker.old result self.new invoker.new }
     {
         self.held = invoker.offer(held);
         false
@@ -90,7 +92,8 @@ where
 
     /// A turn of the request, and whether it is done.
     fn turn(&mut self, alloc: Global, invoker: &mut ConnectionInvoker) -> Result<bool, OutOfMemory>
-        ensures { IfOk result (λ done. TurnsBy (request_answer F.answer R.answer) self.old.held self.old invoker.old done self.new invoker.new) }
+        ensures { IfOk result (λ done. TurnsBy (request_answer F.answer R.answer) self.old.held self.old invoker.old done self.new
+            invoker.new) }
     {
         match self.held.take() {
             Some(held) => Ok(self.try_held(held, invoker)),
@@ -104,7 +107,8 @@ where
         alloc: Global,
         invoker: &mut ConnectionInvoker,
     ) -> Result<((bool, bool), bool), OutOfMemory>
-        ensures turns { IfOk result (λ p. TurnsBy (request_answer F.answer R.answer) self.old.held self.old invoker.old p.1 self.new invoker.new) }
+        ensures turns { IfOk result (λ p. TurnsBy
+            (request_answer F.answer R.answer) self.old.held self.old invoker.old p.1 self.new invoker.new) }
         ensures before { IfOk result (λ p. p.0.0 ≡ is_in_transaction self.old.status) }
         ensures behind { IfOk result (λ p. p.0.1 ≡ (not p.1 && is_in_transaction self.new.status)) }
     {
@@ -132,7 +136,9 @@ pub fn turn_at<F: ReplyFuture<Stream = R>, R: ReplyStream>(
     invoker: &mut ConnectionInvoker,
     request: u64,
 ) -> Result<(bool, bool), OutOfMemory>
-    ensures here { IfOk result (λ p. IsInOrder unfinished.old → TurnedAt (request_answer F.answer R.answer) (request_at unfinished.old request) invoker.old p.0 p.1 (request_at unfinished.new request) invoker.new) }
+    ensures here { IfOk result (λ p. IsInOrder unfinished.old
+        → TurnedAt (request_answer F.answer R.answer) (request_at unfinished.old request) invoker.old p.0 p.1
+        (request_at unfinished.new request) invoker.new) }
     ensures others { OnOk result (IsInOrder unfinished.old → ChangesAt request unfinished.old unfinished.new) }
 {
     let start = unfinished.row_start();
@@ -154,7 +160,9 @@ fn turn_in_row<F: ReplyFuture<Stream = R>, R: ReplyStream>(
 ) -> Result<(bool, bool), OutOfMemory>
     requires { place < length unfinished.old.row.items }
     ensures here { IfOk result (λ p. IsInOrder unfinished.old
-        → TurnedAt (request_answer F.answer R.answer) (request_at unfinished.old (row_start unfinished.old + place)) invoker.old p.0 p.1 (request_at unfinished.new (row_start unfinished.old + place)) invoker.new) }
+        → TurnedAt (request_answer F.answer R.answer)
+        (request_at unfinished.old (row_start unfinished.old + place)) invoker.old p.0 p.1
+        (request_at unfinished.new (row_start unfinished.old + place)) invoker.new) }
     ensures others { OnOk result (IsInOrder unfinished.old → ChangesAt (row_start unfinished.old + place) unfinished.old unfinished.new) }
 {
     let (counts, done) = unfinished.row[place].turn_counted(alloc, invoker)?;
@@ -172,7 +180,8 @@ fn turn_passed<F: ReplyFuture<Stream = R>, R: ReplyStream>(
     invoker: &mut ConnectionInvoker,
     request: u64,
 ) -> Result<(bool, bool), OutOfMemory>
-    ensures here { IfOk result (λ p. TurnedAt (request_answer F.answer R.answer) (get nat_cmp passed.old request) invoker.old p.0 p.1 (get nat_cmp passed.new request) invoker.new) }
+    ensures here { IfOk result (λ p. TurnedAt (request_answer F.answer R.answer)
+        (get nat_cmp passed.old request) invoker.old p.0 p.1 (get nat_cmp passed.new request) invoker.new) }
     ensures others { OnOk result ((q : ℕ) → q ≢ request → get nat_cmp passed.new q ≡ get nat_cmp passed.old q) }
 {
     let Some(kept) = passed.get_mut(&request) else {
@@ -201,7 +210,8 @@ fn let_go<F: Drop, R: Drop>(
 
 /// How many requests of so many are in a transaction after a turn of one, which was in one before, or is in one now.
 pub fn recount(count: u64, transactions: u64, was: bool, now: bool) -> u64
-    ensures { result ≡ (if now && not was then min (transactions + 1) count else (if was && not now then transactions - 1 else transactions)) }
+    ensures { result ≡ (if now && not was then min (transactions + 1) count
+        else (if was && not now then transactions - 1 else transactions)) }
 {
     if now && !was {
         return transactions.saturating_add(1).min(count);

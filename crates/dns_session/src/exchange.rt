@@ -60,8 +60,10 @@ pub fn begin_exchange<W: SharedService>(
     config: &DgramConfig,
 ) -> Result<BegunExchange<W>, OutOfMemory>
     requires { W.can_call service.now }
-    ensures begun { IfOk result (λ p. BeginsAs (request_answer W.Future.answer W.Stream.answer) (serving (W.answer service.now) (W.hint service.now)) addr at secs config.now (cut_datagram octets) p.0 p.1) }
-    ensures spent { IfOk result (λ p. SpentWith (request_answer W.Future.answer W.Stream.answer) (serving (W.answer service.now) (W.hint service.now)) (not (is_some p.0)) p.0) }
+    ensures begun { IfOk result (λ p. BeginsAs (request_answer W.Future.answer W.Stream.answer)
+        (serving (W.answer service.now) (W.hint service.now)) addr at secs config.now (cut_datagram octets) p.0 p.1) }
+    ensures spent { IfOk result (λ p. SpentWith (request_answer W.Future.answer W.Stream.answer)
+        (serving (W.answer service.now) (W.hint service.now)) (not (is_some p.0)) p.0) }
 {
     let octets = cut_given(octets);
     begin_cut(alloc, service, addr, at, secs, octets, config)
@@ -78,7 +80,8 @@ pub fn begin_cut<W: SharedService>(
     config: &DgramConfig,
 ) -> Result<BegunExchange<W>, OutOfMemory>
     requires { W.can_call service.now }
-    ensures { IfOk result (λ p. BeginsAs (request_answer W.Future.answer W.Stream.answer) (serving (W.answer service.now) (W.hint service.now)) addr at secs config.now octets.items p.0 p.1) }
+    ensures { IfOk result (λ p. BeginsAs (request_answer W.Future.answer W.Stream.answer)
+        (serving (W.answer service.now) (W.hint service.now)) addr at secs config.now octets.items p.0 p.1) }
 {
     let Ok(message) = Message::from_octets(octets) else {
         return Ok((None, None));
@@ -98,7 +101,9 @@ fn begin_message<W: SharedService>(
     config: &DgramConfig,
 ) -> Result<BegunExchange<W>, OutOfMemory>
     requires { W.can_call service.now }
-    ensures { IfOk result (λ p. 12 ≤ length message → BeginsAs (request_answer W.Future.answer W.Stream.answer) (serving (W.answer service.now) (W.hint service.now)) addr at secs config.now message p.0 p.1) }
+    ensures { IfOk result (λ p. 12 ≤ length message
+        → BeginsAs (request_answer W.Future.answer W.Stream.answer)
+        (serving (W.answer service.now) (W.hint service.now)) addr at secs config.now message p.0 p.1) }
 {
     if message.header().qr {
         return refuse::<W>(alloc, &message, config);
@@ -115,7 +120,8 @@ fn ask<W: SharedService>(
 ) -> Result<BegunExchange<W>, OutOfMemory>
     requires { W.can_call service.now }
     ensures { IfOk result (λ p. (p.1 ≡ None)
-        × MatchOption p.0 ⊥ (λ q. IsKeptOfRequest (request_answer W.Future.answer W.Stream.answer) (serving (W.answer service.now) (W.hint service.now)) q (unpolled request))) }
+        × MatchOption p.0 ⊥ (λ q. IsKeptOfRequest (request_answer W.Future.answer W.Stream.answer)
+        (serving (W.answer service.now) (W.hint service.now)) q (unpolled request))) }
 {
     let kept = call(alloc, service, request)?;
     Ok((Some(kept), None))
@@ -142,7 +148,8 @@ fn turn<F: ReplyFuture<Stream = R>, R: ReplyStream>(
     request: u64,
 ) -> Result<Vec<Output>, OutOfMemory>
     ensures { IfOk result (λ outs. (answers : Serving)
-        → Exchanges (request_answer F.answer R.answer) answers client unfinished.old unfinished.new outs.items (λ s. exchange_turn answers request (slice_get s.requests request) s)) }
+        → Exchanges (request_answer F.answer R.answer) answers client unfinished.old unfinished.new outs.items
+        (λ s. exchange_turn answers request (slice_get s.requests request) s)) }
 {
     if request != 0 {
         return Ok(Vec::new(alloc));

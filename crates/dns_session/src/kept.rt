@@ -39,7 +39,8 @@ pub fn call<W: SharedService>(
     request: Request<()>,
 ) -> Result<KeptRequest<W::Future, W::Stream>, OutOfMemory>
     requires { W.can_call service.now }
-    ensures answers { IfOk result (λ q. (k : ℕ) → request_answer W.Future.answer W.Stream.answer q.polled k ≡ W.answer service.now request k) }
+    ensures answers { IfOk result (λ q. (k : ℕ)
+        → request_answer W.Future.answer W.Stream.answer q.polled k ≡ W.answer service.now request k) }
     ensures message { IfOk result (λ q. arc_value q.message ≡ request.octets) }
     ensures limit { IfOk result (λ q. q.limit ≡ limit_over request.transport (limit (W.hint service.now request))) }
 {
@@ -97,8 +98,10 @@ where
     /// A Turn of the one request of an exchange: the octets that its client is sent, where there are some, and whether the request
     /// is done.
     pub fn turn(&mut self, alloc: Global) -> Result<(Option<Octets>, bool), OutOfMemory>
-        ensures follows { IfOk result (λ p. (answers : Serving) → TurnsAs (request_answer F.answer R.answer) answers (Some self.old) (unless_done p.1 self.new) p.0) }
-        ensures spent { IfOk result (λ p. (answers : Serving) → SpentWith (request_answer F.answer R.answer) answers p.1 (unless_done p.1 self.new)) }
+        ensures follows { IfOk result (λ p. (answers : Serving)
+            → TurnsAs (request_answer F.answer R.answer) answers (Some self.old) (unless_done p.1 self.new) p.0) }
+        ensures spent { IfOk result (λ p. (answers : Serving)
+            → SpentWith (request_answer F.answer R.answer) answers p.1 (unless_done p.1 self.new)) }
     {
         let (reply, done) = self.poll(alloc)?;
         Ok((datagram_in(reply), done))

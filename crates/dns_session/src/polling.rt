@@ -15,7 +15,8 @@ pub fn turn_unfinished<F: ReplyFuture<Stream = R>, R: ReplyStream>(
     alloc: Global,
     unfinished: &mut Option<KeptRequest<F, R>>,
 ) -> Result<Option<Octets>, OutOfMemory>
-    ensures { IfOk result (λ octets. (answers : Serving) → TurnsAs (request_answer F.answer R.answer) answers unfinished.old unfinished.new octets) }
+    ensures { IfOk result (λ octets. (answers : Serving)
+        → TurnsAs (request_answer F.answer R.answer) answers unfinished.old unfinished.new octets) }
 {
     let (octets, done) = match unfinished {
         None => return Ok(None),

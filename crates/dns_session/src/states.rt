@@ -182,7 +182,8 @@ pub(crate) fn step_state<W: SharedService>(
     event: &Event,
 ) -> Result<Vec<Output>, OutOfMemory>
     requires { W.can_call service.now }
-    ensures follows { IfOk result (λ outs. StateGoes (request_answer W.Future.answer W.Stream.answer) (serving (W.answer service.now) (W.hint service.now)) client state.old state.new outs.items
+    ensures follows { IfOk result (λ outs. StateGoes (request_answer W.Future.answer W.Stream.answer)
+        (serving (W.answer service.now) (W.hint service.now)) client state.old state.new outs.items
         (rule (serving (W.answer service.now) (W.hint service.now)) event.now)) }
     ensures lost { state.old ≡ State.Lost → IsOkAnd result (λ outs. outs.items ≡ []) × (state.new ≡ State.Lost) }
 {
@@ -203,7 +204,9 @@ fn step_unopened<W: SharedService>(
     event: &Event,
 ) -> Result<Vec<Output>, OutOfMemory>
     requires { state_is_open state.now ≡ false }
-    ensures follows { IfOk result (λ outs. (answers : Serving) → StateGoes (request_answer W.Future.answer W.Stream.answer) answers client state.old state.new outs.items (rule answers event.now)) }
+    ensures follows { IfOk result (λ outs. (answers : Serving)
+        → StateGoes (request_answer W.Future.answer W.Stream.answer) answers client state.old state.new outs.items
+        (rule answers event.now)) }
     ensures lost { state.old ≡ State.Lost → IsOkAnd result (λ outs. outs.items ≡ []) × (state.new ≡ State.Lost) }
 {
     match state {
@@ -228,7 +231,8 @@ pub(crate) fn shut_down<W: SharedService>(
     client: u64,
 ) -> Result<Vec<Output>, OutOfMemory>
     ensures follows { IfOk result (λ outs. (answers : Serving)
-        → StateGoes (request_answer W.Future.answer W.Stream.answer) answers client state.old state.new outs.items (rule answers (wide EventKind.Shutdown))) }
+        → StateGoes (request_answer W.Future.answer W.Stream.answer) answers client state.old state.new outs.items
+        (rule answers (wide EventKind.Shutdown))) }
     ensures lost { state.old ≡ State.Lost → IsOkAnd result (λ outs. outs.items ≡ []) × (state.new ≡ State.Lost) }
 {
     let State::Open(connection) = state else {

@@ -43,7 +43,8 @@ module _ {W R F : Type 0} (answer : PolledRequest F R → ℕ → Answer) (answe
       GoesAs answer answers core new outs (rule answers e) × ((s : Slate) → Stands answer answers new s → IsOver finished freed s)
 
   -- a client that is finished leaves
-  pub record StepsKey (old : Option (ClientCore W R F)) (e : Event) (outs : List Output) (freed : Bool) (new : Option (ClientCore W R F)) : Type 0 where
+  pub record StepsKey (old : Option (ClientCore W R F)) (e : Event) (outs : List Output) (freed : Bool)
+      (new : Option (ClientCore W R F)) : Type 0 where
     pub stepped : Option (ClientCore W R F)
     pub finished : Bool
     pub steps : Steps old e outs finished freed stepped
@@ -53,19 +54,23 @@ module _ {W R F : Type 0} (answer : PolledRequest F R → ℕ → Answer) (answe
   abbrev pub LooksOne : Option (ClientCore W R F) → State → List Output → Option (ClientCore W R F) → Type 0
   LooksOne None look outs new = (outs ≡ []) × (new ≡ None)
   LooksOne (Some core) look outs None = ⊥
-  LooksOne (Some core) look outs (Some new) = GoesAs answer answers core new outs (look_effect answers core.version look) × (new.version ≡ look.version)
+  LooksOne (Some core) look outs (Some new) = GoesAs answer answers core new outs (look_effect answers core.version look)
+      × (new.version ≡ look.version)
 
   -- the cores stand for slates, by number, and heard these versions of the configurations
   abbrev pub StandAll : BTreeMap ℕ (ClientCore W R F) → (ℕ → Slate) → (ℕ → ℕ) → Type 0
-  StandAll m slates versions = (c : ℕ) (core : ClientCore W R F) → get nat_cmp m c ≡ Some core → Stands answer answers core (slates c) × (core.version ≡ versions c)
+  StandAll m slates versions = (c : ℕ) (core : ClientCore W R F) → get nat_cmp m c ≡ Some core
+      → Stands answer answers core (slates c) × (core.version ≡ versions c)
 
   -- all of them look, by rising number
   abbrev pub LooksAll : BTreeMap ℕ (ClientCore W R F) → BTreeMap ℕ (ClientCore W R F) → State → List Output → Type 0
   LooksAll old new look outs = (slates : ℕ → Slate) (versions : ℕ → ℕ) → StandAll old slates versions
-      → (outs ≡ flat_map (λ c. (look_effect answers (versions c) look (slates c)).1) (keys old)) × StandAll new (λ c. (look_effect answers (versions c) look (slates c)).0) (λ c. look.version)
+      → (outs ≡ flat_map (λ c. (look_effect answers (versions c) look (slates c)).1) (keys old))
+      × StandAll new (λ c. (look_effect answers (versions c) look (slates c)).0) (λ c. look.version)
 
   -- a client begins with a core: that is kept under its number, unless it is finished, the others stay, and the number is used
-  pub record EntersWith (old new : BTreeMap ℕ (ClientCore W R F)) (before after : BTreeSet ℕ) (core : ClientCore W R F) (c : ℕ) : Type 0 where
+  pub record EntersWith (old new : BTreeMap ℕ (ClientCore W R F)) (before after : BTreeSet ℕ) (core : ClientCore W R F)
+      (c : ℕ) : Type 0 where
     pub spent : (s : Slate) → Stands answer answers core s → state_is_spent core.state ≡ is_spent s
     pub here : get nat_cmp new c ≡ (if state_is_spent core.state then get nat_cmp old c else Some core)
     pub others : (d : ℕ) → d ≢ c → get nat_cmp new d ≡ get nat_cmp old d

@@ -34,9 +34,11 @@ fn step_core<W: SharedService>(
     event: &Event,
 ) -> Result<Stepped, OutOfMemory>
     requires { W.can_call service.now }
-    ensures goes { IfOk result (λ p. GoesAs (request_answer W.Future.answer W.Stream.answer) (serving (W.answer service.now) (W.hint service.now)) core.old core.new p.outs.items
+    ensures goes { IfOk result (λ p. GoesAs (request_answer W.Future.answer W.Stream.answer)
+        (serving (W.answer service.now) (W.hint service.now)) core.old core.new p.outs.items
         (rule (serving (W.answer service.now) (W.hint service.now)) event.now)) }
-    ensures over { IfOk result (λ p. (answers : Serving) (s : Slate) → Stands (request_answer W.Future.answer W.Stream.answer) answers core.new s → IsOver p.finished p.freed s) }
+    ensures over { IfOk result (λ p. (answers : Serving) (s : Slate)
+        → Stands (request_answer W.Future.answer W.Stream.answer) answers core.new s → IsOver p.finished p.freed s) }
     ensures version { OnOk result (core.new.version ≡ core.old.version) }
 {
     let outs = core.step(alloc, service, event)?;
@@ -56,7 +58,9 @@ fn step_there<W: SharedService>(
     event: &Event,
 ) -> Result<Stepped, OutOfMemory>
     requires { W.can_call service.now }
-    ensures here { IfOk result (λ p. Steps (request_answer W.Future.answer W.Stream.answer) (serving (W.answer service.now) (W.hint service.now)) (get nat_cmp clients.old client) event.now p.outs.items p.finished p.freed (get nat_cmp clients.new client)) }
+    ensures here { IfOk result (λ p. Steps (request_answer W.Future.answer W.Stream.answer)
+        (serving (W.answer service.now) (W.hint service.now))
+        (get nat_cmp clients.old client) event.now p.outs.items p.finished p.freed (get nat_cmp clients.new client)) }
     ensures others { OnOk result ((c : ℕ) → c ≢ client → get nat_cmp clients.new c ≡ get nat_cmp clients.old c) }
     ensures same_keys { OnOk result (keys clients.new ≡ keys clients.old) }
     ensures version { OnOk result ((v : ℕ) → IsAt (get nat_cmp clients.old client) v → IsAt (get nat_cmp clients.new client) v) }
@@ -82,7 +86,8 @@ pub fn look_at<W: SharedService>(
     look: &Look,
 ) -> Result<Vec<Output>, OutOfMemory>
     ensures here { IfOk result (λ outs. (answers : Serving)
-        → LooksOne (request_answer W.Future.answer W.Stream.answer) answers (get nat_cmp clients.old number) look.now outs.items (get nat_cmp clients.new number)) }
+        → LooksOne (request_answer W.Future.answer W.Stream.answer) answers (get nat_cmp clients.old number) look.now outs.items
+        (get nat_cmp clients.new number)) }
     ensures others { OnOk result ((c : ℕ) → c ≢ number → get nat_cmp clients.new c ≡ get nat_cmp clients.old c) }
     ensures same_keys { OnOk result (keys clients.new ≡ keys clients.old) }
 {
@@ -113,9 +118,12 @@ pub fn step_at<W: SharedService>(
     event: &Event,
 ) -> Result<(Vec<Output>, bool), OutOfMemory>
     requires { W.can_call service.now }
-    ensures here { IfOk result (λ p. StepsKey (request_answer W.Future.answer W.Stream.answer) (serving (W.answer service.now) (W.hint service.now)) (get nat_cmp clients.old event.now.client) event.now p.0.items p.1 (get nat_cmp clients.new event.now.client)) }
+    ensures here { IfOk result (λ p. StepsKey (request_answer W.Future.answer W.Stream.answer)
+        (serving (W.answer service.now) (W.hint service.now)) (get nat_cmp clients.old event.now.client) event.now p.0.items p.1
+        (get nat_cmp clients.new event.now.client)) }
     ensures others { OnOk result ((c : ℕ) → c ≢ event.now.client → get nat_cmp clients.new c ≡ get nat_cmp clients.old c) }
-    ensures version { OnOk result ((v : ℕ) → IsAt (get nat_cmp clients.old event.now.client) v → IsAt (get nat_cmp clients.new event.now.client) v) }
+    ensures version { OnOk result ((v : ℕ) → IsAt (get nat_cmp clients.old event.now.client) v
+        → IsAt (get nat_cmp clients.new event.now.client) v) }
 {
     let Stepped {
         outs,
@@ -144,7 +152,8 @@ fn look_more<W: SharedService>(
     outs: &mut Vec<Output>,
 ) -> Result<(), OutOfMemory>
     ensures here { OnOk result ((more : List Output) × (outs.new.items ≡ outs.old.items ++ more) × ((answers : Serving)
-        → LooksOne (request_answer W.Future.answer W.Stream.answer) answers (get nat_cmp clients.old number) look.now more (get nat_cmp clients.new number))) }
+        → LooksOne (request_answer W.Future.answer W.Stream.answer) answers (get nat_cmp clients.old number) look.now more
+        (get nat_cmp clients.new number))) }
     ensures others { OnOk result ((c : ℕ) → c ≢ number → get nat_cmp clients.new c ≡ get nat_cmp clients.old c) }
     ensures same_keys { OnOk result (keys clients.new ≡ keys clients.old) }
 {
@@ -162,7 +171,8 @@ fn look_each<W: SharedService>(
 ) -> Result<Vec<Output>, OutOfMemory>
     requires all { numbers.now ≡ keys clients.old }
     requires rising { IsOrdered nat_cmp clients.old }
-    ensures looked { IfOk result (λ outs. (answers : Serving) → LooksAll (request_answer W.Future.answer W.Stream.answer) answers clients.old clients.new look.now outs.items) }
+    ensures looked { IfOk result (λ outs. (answers : Serving)
+        → LooksAll (request_answer W.Future.answer W.Stream.answer) answers clients.old clients.new look.now outs.items) }
     ensures same_keys { OnOk result (keys clients.new ≡ keys clients.old) }
 {
     let mut outs = Vec::new(alloc);
@@ -178,7 +188,8 @@ pub fn look_all<W: SharedService>(
     clients: &mut BTreeMap<u64, ClientCore<W>>,
     look: &Look,
 ) -> Result<Vec<Output>, OutOfMemory>
-    ensures looked { IfOk result (λ outs. (answers : Serving) → LooksAll (request_answer W.Future.answer W.Stream.answer) answers clients.old clients.new look.now outs.items) }
+    ensures looked { IfOk result (λ outs. (answers : Serving)
+        → LooksAll (request_answer W.Future.answer W.Stream.answer) answers clients.old clients.new look.now outs.items) }
     ensures same_keys { OnOk result (keys clients.new ≡ keys clients.old) }
     ensures rising { OnOk result (IsOrdered nat_cmp clients.old) }
 {
@@ -206,7 +217,8 @@ fn enter<W: SharedService>(
     client: u64,
     core: ClientCore<W>,
 ) -> Result<(), OutOfMemory>
-    ensures here { OnOk result (get nat_cmp clients.new client ≡ (if state_is_spent core.state then get nat_cmp clients.old client else Some core)) }
+    ensures here { OnOk result (get nat_cmp clients.new client
+        ≡ (if state_is_spent core.state then get nat_cmp clients.old client else Some core)) }
     ensures others { OnOk result ((c : ℕ) → c ≢ client → get nat_cmp clients.new c ≡ get nat_cmp clients.old c) }
     ensures spent { OnOk result ((answers : Serving) (s : Slate)
         → Stands (request_answer W.Future.answer W.Stream.answer) answers core s → state_is_spent core.state ≡ is_spent s) }
@@ -234,7 +246,8 @@ pub fn begin<W: SharedService>(
     core: ClientCore<W>,
     outs: Vec<Output>,
 ) -> Result<Vec<Output>, OutOfMemory>
-    ensures { IfOk result (λ r. (r ≡ outs) × ((answers : Serving) → EntersWith (request_answer W.Future.answer W.Stream.answer) answers clients.old clients.new used.old used.new core client)) }
+    ensures { IfOk result (λ r. (r ≡ outs) × ((answers : Serving)
+        → EntersWith (request_answer W.Future.answer W.Stream.answer) answers clients.old clients.new used.old used.new core client)) }
 {
     enter(clients, client, core)?;
     use_number(used, client)?;

@@ -152,7 +152,8 @@ impl SignedZone {
         records: Vec<Record>,
     ) -> Result<SignedZone, SignedZoneError>
         requires { AreLawful records.items }
-        ensures { MatchResult result (IsMadeOf (record { apex = apex; records = records.items })) (Refuses (record { apex = apex; records = records.items })) }
+        ensures { MatchResult result (IsMadeOf (record { apex = apex; records = records.items }))
+            (Refuses (record { apex = apex; records = records.items })) }
     {
         match ZoneTree::new(alloc, apex, records) {
             Ok(zone) => chained(alloc, zone),

@@ -36,7 +36,8 @@ VerifiesFirst p least now m =
 
 -- replies are taken one behind the other, each MAC whole
 abbrev pub client_takes : SignerParts → ℕ → List Msg → Result Chain TsigError
-client_takes p now replies = behind_all p.key (size_of p.key.algorithm) now (Ok (chain_behind p.prior)) (map wire (signed_replies p replies))
+client_takes p now replies = behind_all p.key (size_of p.key.algorithm) now (Ok (chain_behind p.prior))
+    (map wire (signed_replies p replies))
 
 abbrev pub chain_after : SignerParts → List Msg → Chain
 chain_after p replies = chain_sent p.key (chain_behind p.prior) (map (stamped p) replies)

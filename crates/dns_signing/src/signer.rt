@@ -38,7 +38,15 @@ impl Model for Signer {
 
     ghost Value = { SignerParts };
 
-    ghost view = { λ s. record { key = arc_value s.key; stamp = s.stamp; room = s.room; prior = prior_of s.request_mac.items s.last; begun = is_some s.last; request = arc_value s.request; ended = s.ended } };
+    ghost view = { λ s. record {
+      key = arc_value s.key;
+      stamp = s.stamp;
+      room = s.room;
+      prior = prior_of s.request_mac.items s.last;
+      begun = is_some s.last;
+      request = arc_value s.request;
+      ended = s.ended;
+    } };
 
     ghost invariant = { λ s. (s.stamp.time < 2 ^ 48) × (length s.request_mac.items < 2 ^ 16) };
 }
@@ -54,7 +62,15 @@ impl Signer {
     ) -> Signer
         requires time { stamp.time < 2 ^ 48 }
         requires mac { length request_mac.items < 2 ^ 16 }
-        ensures { result ≡ record { key = arc_value key; stamp = stamp; room = room; prior = request_mac.items; begun = false; request = arc_value request; ended = false } }
+        ensures { result ≡ record {
+          key = arc_value key;
+          stamp = stamp;
+          room = room;
+          prior = request_mac.items;
+          begun = false;
+          request = arc_value request;
+          ended = false;
+        } }
     {
         Signer {
             key,

@@ -62,7 +62,9 @@ impl<S: Service<Option<usize>>> TsigMiddlewareSvc<S> {
     /// The replies to a request.
     fn answered(&self, alloc: Global, request: &Request<()>) -> Result<Answered<S>, OutOfMemory>
         requires can_call { S.can_call self.now.next }
-        ensures { let p = policy self.now.keys self.now.least self.now.fudge in IfOk result (λ f. (k : ℕ) → ⟦<Answered<S> as ReplyStream>⟧.answer f k ≡ tsig_answer (S.answer self.now.next) (S.hint self.now.next) p request.now k) }
+        ensures { let p = policy self.now.keys self.now.least self.now.fudge in IfOk result
+            (λ f. (k : ℕ) → ⟦<Answered<S> as ReplyStream>⟧.answer f k
+            ≡ tsig_answer (S.answer self.now.next) (S.hint self.now.next) p request.now k) }
     {
         match find(request.message().as_slice()) {
             Ok(given) => self.given(alloc, request, given),
@@ -78,7 +80,9 @@ impl<S: Service<Option<usize>>> TsigMiddlewareSvc<S> {
         given: Option<Signed<'_>>,
     ) -> Result<Answered<S>, OutOfMemory>
         requires can_call { S.can_call self.now.next }
-        ensures { let p = policy self.now.keys self.now.least self.now.fudge in IfOk result (λ f. (k : ℕ) → ⟦<Answered<S> as ReplyStream>⟧.answer f k ≡ by_octets (S.answer self.now.next) (S.hint self.now.next) p request.now (Ok given.entry) k) }
+        ensures { let p = policy self.now.keys self.now.least self.now.fudge in IfOk result
+            (λ f. (k : ℕ) → ⟦<Answered<S> as ReplyStream>⟧.answer f k
+            ≡ by_octets (S.answer self.now.next) (S.hint self.now.next) p request.now (Ok given.entry) k) }
     {
         match given {
             Some(signed) => self.by_key(alloc, request, &signed),
@@ -89,7 +93,8 @@ impl<S: Service<Option<usize>>> TsigMiddlewareSvc<S> {
     /// The inner replies to a request without a TSIG.
     fn pass(&self, alloc: Global, request: &Request<()>) -> Result<Answered<S>, OutOfMemory>
         requires can_call { S.can_call self.now.next }
-        ensures { IfOk result (λ f. (k : ℕ) → ⟦<Answered<S> as ReplyStream>⟧.answer f k ≡ S.answer self.now.next (with_metadata request.now None) k) }
+        ensures { IfOk result (λ f. (k : ℕ) → ⟦<Answered<S> as ReplyStream>⟧.answer f k
+            ≡ S.answer self.now.next (with_metadata request.now None) k) }
     {
         let mut inner = request.try_clone(alloc, None)?;
         let future = self.next.call(alloc, &mut inner)?;
@@ -104,7 +109,9 @@ impl<S: Service<Option<usize>>> TsigMiddlewareSvc<S> {
         signed: &Signed<'_>,
     ) -> Result<Answered<S>, OutOfMemory>
         requires can_call { S.can_call self.now.next }
-        ensures { let p = policy self.now.keys self.now.least self.now.fudge in IfOk result (λ f. (k : ℕ) → ⟦<Answered<S> as ReplyStream>⟧.answer f k ≡ by_key (S.answer self.now.next) (S.hint self.now.next) p request.now signed.now (key_for p.keys signed.now.tsig) k) }
+        ensures { let p = policy self.now.keys self.now.least self.now.fudge in IfOk result
+            (λ f. (k : ℕ) → ⟦<Answered<S> as ReplyStream>⟧.answer f k
+            ≡ by_key (S.answer self.now.next) (S.hint self.now.next) p request.now signed.now (key_for p.keys signed.now.tsig) k) }
     {
         match self.keys.get(signed.tsig()) {
             Some((number, key)) => self.judge(alloc, request, signed, number, key),
@@ -122,7 +129,11 @@ impl<S: Service<Option<usize>>> TsigMiddlewareSvc<S> {
         key: &Arc<Key>,
     ) -> Result<Answered<S>, OutOfMemory>
         requires can_call { S.can_call self.now.next }
-        ensures { let p = policy self.now.keys self.now.least self.now.fudge in let x = arc_value key.now in IfOk result (λ f. (k : ℕ) → ⟦<Answered<S> as ReplyStream>⟧.answer f k ≡ verified (S.answer self.now.next) (S.hint self.now.next) p request.now signed.now number x (message_refusal x p.least (clock request.now) [] signed.now) k) }
+        ensures { let p = policy self.now.keys self.now.least self.now.fudge in let x
+            = arc_value key.now in IfOk result (λ f. (k : ℕ)
+            → ⟦<Answered<S> as ReplyStream>⟧.answer f k
+            ≡ verified (S.answer self.now.next) (S.hint self.now.next) p request.now signed.now number x
+            (message_refusal x p.least (clock request.now) [] signed.now) k) }
     {
         match signed.verify(key, self.least, clock(request), &[]) {
             Ok(()) => self.pass_signed(alloc, request, signed, number, key),
@@ -140,7 +151,11 @@ impl<S: Service<Option<usize>>> TsigMiddlewareSvc<S> {
         key: &Arc<Key>,
     ) -> Result<Answered<S>, OutOfMemory>
         requires can_call { S.can_call self.now.next }
-        ensures { let p = policy self.now.keys self.now.least self.now.fudge in let inner = taken_off request.now signed.now number in IfOk result (λ f. (k : ℕ) → ⟦<Answered<S> as ReplyStream>⟧.answer f k ≡ signed_answers (S.answer self.now.next inner) (signer_of p (arc_value key.now) request.now signed.now (S.hint self.now.next inner)) k) }
+        ensures { let p = policy self.now.keys self.now.least self.now.fudge in let inner
+            = taken_off request.now signed.now number in IfOk result
+            (λ f. (k : ℕ) → ⟦<Answered<S> as ReplyStream>⟧.answer f k
+            ≡ signed_answers (S.answer self.now.next inner)
+            (signer_of p (arc_value key.now) request.now signed.now (S.hint self.now.next inner)) k) }
     {
         let mut inner = taken_off(alloc, request, signed, number)?;
         let future = self.next.call(alloc, &mut inner)?;
@@ -160,7 +175,8 @@ impl<S: Service<Option<usize>>> TsigMiddlewareSvc<S> {
         key: &Arc<Key>,
     ) -> Result<Signer, OutOfMemory>
         requires { arc_value message.now ≡ signed.now.bare }
-        ensures { let p = policy self.now.keys self.now.least self.now.fudge in IfOk result (λ s. s ≡ signer_of p (arc_value key.now) request.now signed.now hint) }
+        ensures { let p = policy self.now.keys self.now.least self.now.fudge in IfOk result
+            (λ s. s ≡ signer_of p (arc_value key.now) request.now signed.now hint) }
     {
         let mut mac = Vec::new(alloc);
         mac.extend_from_slice(signed.tsig().mac())?;
@@ -210,7 +226,8 @@ fn plain<S: Service<Option<usize>>>(
     request: &Request<()>,
     error: TsigError,
 ) -> Result<Answered<S>, OutOfMemory>
-    ensures { IfOk result (λ f. (k : ℕ) → ⟦<Answered<S> as ReplyStream>⟧.answer f k ≡ sole (error_within (own_size request.now) request.now.octets (rcode_of error)) k) }
+    ensures { IfOk result (λ f. (k : ℕ) → ⟦<Answered<S> as ReplyStream>⟧.answer f k
+        ≡ sole (error_within (own_size request.now) request.now.octets (rcode_of error)) k) }
 {
     let rcode = OptRcode::from(error.rcode());
     let reply = error_within(alloc, request.message(), rcode, own_size(request))?;
@@ -224,7 +241,8 @@ fn unknown<S: Service<Option<usize>>>(
     signed: &Signed<'_>,
     fudge: u16,
 ) -> Result<Answered<S>, OutOfMemory>
-    ensures { IfOk result (λ f. (k : ℕ) → ⟦<Answered<S> as ReplyStream>⟧.answer f k ≡ sole (unknown_reply (refusal_of fudge request.now signed.now)) k) }
+    ensures { IfOk result (λ f. (k : ℕ) → ⟦<Answered<S> as ReplyStream>⟧.answer f k
+        ≡ sole (unknown_reply (refusal_of fudge request.now signed.now)) k) }
 {
     let reply = unsigned_reply(alloc, request, signed, TsigError::BadKey, fudge)?;
     Ok(sole::<S>(reply))
@@ -239,7 +257,8 @@ fn refuse<S: Service<Option<usize>>>(
     error: TsigError,
     fudge: u16,
 ) -> Result<Answered<S>, OutOfMemory>
-    ensures { IfOk result (λ f. (k : ℕ) → ⟦<Answered<S> as ReplyStream>⟧.answer f k ≡ sole (refusal_reply (refusal_of fudge request.now signed.now) key.now error) k) }
+    ensures { IfOk result (λ f. (k : ℕ) → ⟦<Answered<S> as ReplyStream>⟧.answer f k
+        ≡ sole (refusal_reply (refusal_of fudge request.now signed.now) key.now error) k) }
 {
     let reply = refusal_reply(alloc, request, signed, key, error, fudge)?;
     Ok(sole::<S>(reply))

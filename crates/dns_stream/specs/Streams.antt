@@ -8,20 +8,23 @@ use Rattle.dns_stream.specs.declared.middleware.MiddlewareStream.{MiddlewareStre
 use Rattle.dns_stream.specs.declared.middleware.MiddlewareStream.TheVariants.{IdentityFuture, IdentityStream, Map, Result as Own}
 
 -- a middleware stream answers what it holds answers
-abbrev pub middleware_answer : {F R M O : Type 0} → (F → ℕ → Answer) → (R → ℕ → Answer) → (M → ℕ → Answer) → (O → ℕ → Answer) → MiddlewareStream F R M O → ℕ → Answer
+abbrev pub middleware_answer : {F R M O : Type 0} → (F → ℕ → Answer) → (R → ℕ → Answer) → (M → ℕ → Answer) → (O → ℕ → Answer)
+    → MiddlewareStream F R M O → ℕ → Answer
 middleware_answer f r m o (IdentityFuture future) = f future
 middleware_answer f r m o (IdentityStream stream) = r stream
 middleware_answer f r m o (Map stream) = m stream
 middleware_answer f r m o (Own stream) = o stream
 
-abbrev pub middleware_size : {F R M O : Type 0} → (R → ℕ × Option ℕ) → (M → ℕ × Option ℕ) → (O → ℕ × Option ℕ) → MiddlewareStream F R M O → ℕ × Option ℕ
+abbrev pub middleware_size : {F R M O : Type 0} → (R → ℕ × Option ℕ) → (M → ℕ × Option ℕ) → (O → ℕ × Option ℕ)
+    → MiddlewareStream F R M O → ℕ × Option ℕ
 middleware_size r m o (IdentityFuture future) = unknown_size
 middleware_size r m o (IdentityStream stream) = r stream
 middleware_size r m o (Map stream) = m stream
 middleware_size r m o (Own stream) = o stream
 
 -- what a stream becomes and answers behind a poll of its future: that of the future's stream where it is ready
-abbrev pub Follows : {E F R M O : Type 0} → Result (Polled (R × Answer)) E → MiddlewareStream F R M O → MiddlewareStream F R M O → Result Answer E → Type 0
+abbrev pub Follows : {E F R M O : Type 0} → Result (Polled (R × Answer)) E → MiddlewareStream F R M O → MiddlewareStream F R M O
+    → Result Answer E → Type 0
 Follows (Ok Pending) old new result = (result ≡ Ok Pending) × (new ≡ old)
 Follows (Ok (Ready p)) old new result = (result ≡ Ok p.1) × (new ≡ IdentityStream p.0)
 Follows (Err e) old new result = result ≡ Err e

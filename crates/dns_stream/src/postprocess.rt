@@ -36,7 +36,8 @@ pub struct PostprocessingStream<F: ReplyFuture, Meta, P> {
 impl<F: ReplyFuture, Meta: Drop, P: Postprocess<Meta>> PostprocessingStream<F, Meta, P> {
     /// The replies of a future, mapped by `pp` for the request.
     pub fn new(future: F, request: Request<Meta>, pp: P) -> Self
-        ensures answers { ⟦<PostprocessingStream<F, Meta, P> as ReplyStream>⟧.answer result ≡ each_mapped (P.post pp request) (F.answer future) }
+        ensures answers { ⟦<PostprocessingStream<F, Meta, P> as ReplyStream>⟧.answer result
+            ≡ each_mapped (P.post pp request) (F.answer future) }
         ensures size { ⟦<PostprocessingStream<F, Meta, P> as ReplyStream>⟧.size result ≡ unknown_size }
     {
         PostprocessingStream {

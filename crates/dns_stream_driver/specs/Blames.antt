@@ -61,10 +61,12 @@ module _ {W R F : Type 0} (answer : PolledRequest F R → ℕ → Answer) where
 
   -- An own event that was chosen for a core and done, with its readings of the clock, or memory ran out at a read. The link and the
   -- clock are read so.
-  pub record OwnEvent {L C : Type 0} (tells : L → Type 0) (traffic : L → Traffic) (faults_of : L → ℕ) (ticks : C → Type 0) (readings : C → List ClockReading)
+  pub record OwnEvent {L C : Type 0} (tells : L → Type 0) (traffic : L → Traffic) (faults_of : L → ℕ) (ticks : C → Type 0)
+      (readings : C → List ClockReading)
       (client below : ℕ) (core : ClientCore W R F) (result : Result Event OutOfMemory) (l l' : L) (c c' : C) : Type 0 where
     pub chosen : IfOk result (λ event. Observed (tells l') (tells l) (Chosen answer client below core event (traffic l) (traffic l')))
-    pub clock : IfOk result (λ event. Observed (tells l' × ticks c') (tells l × ticks c) (TimedOne event (traffic l).full_writes (traffic l').full_writes (readings c) (readings c')))
+    pub clock : IfOk result (λ event. Observed (tells l' × ticks c') (tells l × ticks c)
+        (TimedOne event (traffic l).full_writes (traffic l').full_writes (readings c) (readings c')))
     pub blame : IfOk result (λ event. ChosenFor below core event (faults_of l) (faults_of l'))
     pub again : IfOk result (λ event. Observed (tells l') (tells l) (WroteFirst core event.kind (traffic l) (traffic l')))
     pub no_memory : OnErr result (Observed (tells l') (tells l) (Unread (traffic l) (traffic l')))

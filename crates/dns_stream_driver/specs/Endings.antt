@@ -21,13 +21,15 @@ abbrev pub offer : ℕ → SocketAddr → ℕ → ℕ → Event
 offer client addr at secs = record { at = at; secs = secs; client = client; kind = Offer addr }
 
 -- the Offer was noted, and then a story that closes
-pub record WasOffered (answers : Serving) (why : Why) (client : ℕ) (addr : SocketAddr) (look : Look) (n n' : List Event) (k k' : Known) (t t' : Traffic) : Type 0 where
+pub record WasOffered (answers : Serving) (why : Why) (client : ℕ) (addr : SocketAddr) (look : Look) (n n' : List Event)
+    (k k' : Known) (t t' : Traffic) : Type 0 where
   pub at : ℕ
   pub secs : ℕ
   pub story : Story answers (began client addr at look) client look (Some why) (n ++ offer client addr at secs ∷ []) n' k k' t t'
 
 -- and then the slot was given back
-pub record WasServed (answers : Serving) (why : Why) (client : ℕ) (addr : SocketAddr) (look : Look) (n n' : List Event) (k k' : Known) (t t' : Traffic) : Type 0 where
+pub record WasServed (answers : Serving) (why : Why) (client : ℕ) (addr : SocketAddr) (look : Look) (n n' : List Event)
+    (k k' : Known) (t t' : Traffic) : Type 0 where
   pub between : Known
   pub left : ℕ
   pub opened : WasOffered answers why client addr look n n' k between t t'
@@ -47,7 +49,8 @@ EndsSo answers (Closed why) client addr look n n' k k' t t' = WasServed answers 
 EndsSo answers OutOfMemory client addr look n n' k k' t t' = Unserved answers client addr look n n' t t'
 
 -- what shows why the connection was closed, from the Offer on
-pub record ShownFrom (answers : Serving) (why : Why) (client : ℕ) (addr : SocketAddr) (look : Look) (n n' : List Event) (t t' : Traffic) : Type 0 where
+pub record ShownFrom (answers : Serving) (why : Why) (client : ℕ) (addr : SocketAddr) (look : Look) (n n' : List Event)
+    (t t' : Traffic) : Type 0 where
   pub at : ℕ
   pub secs : ℕ
   pub shown : Shown answers (began client addr at look) why (n ++ offer client addr at secs ∷ []) n' t t'

@@ -35,7 +35,8 @@ ServesOn (Some why) s = Unit {0}
 module _ {W R F : Type 0} (answer : PolledRequest F R → ℕ → Answer) (answers : Serving) where
   -- A story so far. The core stands for its slate and knows its looks; ahead is 1 between a look and its event, and else 0; below is the
   -- number below which requests had their turn in this round.
-  pub record Run (s : Slate) (client : ℕ) (first last : Look) (ahead below : ℕ) (why : Option Why) (core : ClientCore W R F) (n n' : List Event) (k k' : Known) (t t' : Traffic) : Type 0 where
+  pub record Run (s : Slate) (client : ℕ) (first last : Look) (ahead below : ℕ) (why : Option Why) (core : ClientCore W R F)
+      (n n' : List Event) (k k' : Known) (t t' : Traffic) : Type 0 where
     pub story : Story answers s client first why n n' k k' t t'
     pub name : k'.name ≡ k.name
     pub looked : length story.looks ≡ length (own_kinds story.events) + ahead
@@ -48,6 +49,7 @@ module _ {W R F : Type 0} (answer : PolledRequest F R → ℕ → Answer) (answe
     pub goes_on : ServesOn why (slate_after answers s story.events)
 
   -- a story so far after a turn, and no fewer writes have answered Again
-  pub record Going (s : Slate) (client : ℕ) (first last : Look) (below : ℕ) (core : ClientCore W R F) (n n' : List Event) (k k' : Known) (t t' : Traffic) : Type 0 where
+  pub record Going (s : Slate) (client : ℕ) (first last : Look) (below : ℕ) (core : ClientCore W R F) (n n' : List Event)
+      (k k' : Known) (t t' : Traffic) : Type 0 where
     pub run : Run s client first last 0 below None core n n' k k' t t'
     pub later : t.full_writes ≤ t'.full_writes

@@ -51,7 +51,8 @@ module _ {W R F : Type 0} (answer : PolledRequest F R → ℕ → Answer) where
     pub closed : closed_by outs ≡ why
 
   -- a look, whose news were noted and then heard
-  pub record HeardNews (why : Option Why) (core core' : ClientCore W R F) (last last' : Look) (n n' : List Event) (k k' : Known) : Type 0 where
+  pub record HeardNews (why : Option Why) (core core' : ClientCore W R F) (last last' : Look) (n n' : List Event)
+      (k k' : Known) : Type 0 where
     pub look : Look
     pub called : Called k ToLook (Shown look) k'
     pub last_is : last' ≡ seen_with last look
@@ -76,7 +77,8 @@ module _ {W R F : Type 0} (answer : PolledRequest F R → ℕ → Answer) (answe
     pub closed : closed_by outs ≡ why
 
   -- one own event: chosen, noted and taken
-  pub record Acted (client below below' : ℕ) (why : Option Why) (core core' : ClientCore W R F) (n n' : List Event) (t t' : Traffic) : Type 0 where
+  pub record Acted (client below below' : ℕ) (why : Option Why) (core core' : ClientCore W R F) (n n' : List Event)
+      (t t' : Traffic) : Type 0 where
     pub event : Event
     pub chosen : Chosen answer client below core event t t'
     pub noted : n' ≡ n ++ event ∷ []

@@ -50,7 +50,8 @@ LastOf answers s events (Some why) = LastCloses answers s events why
 
 -- The events from n to n', noted after the Offer from slate s on, and why the last output closes the connection, if it does. The seat
 -- made looks alone, from k to k'; the link's traffic is t before and t' after.
-pub record Story (answers : Serving) (s : Slate) (client : ℕ) (first : Look) (why : Option Why) (n n' : List Event) (k k' : Known) (t t' : Traffic) : Type 0 where
+pub record Story (answers : Serving) (s : Slate) (client : ℕ) (first : Look) (why : Option Why) (n n' : List Event) (k k' : Known)
+    (t t' : Traffic) : Type 0 where
   pub events : List Event
   pub looks : List Look
   pub extra : List ℕ
@@ -84,7 +85,8 @@ pub record Broken (answers : Serving) (s : Slate) (client : ℕ) (n n' : List Ev
   pub rounds : Rounds answers 0 s events
   pub came : t'.came ≡ t.came ++ (pieces_in events ++ unread)
   pub went : t'.went ≡ t.went ++ (frame_octets (sent_after answers s events) ++ extra)
-  pub cut : IsFrontCut (slate_after answers s events).queue extra ⊎ Extra (closed_by (sent_after answers s events)) (slate_after answers s (all_but_last events)).queue extra
+  pub cut : IsFrontCut (slate_after answers s events).queue extra
+      ⊎ Extra (closed_by (sent_after answers s events)) (slate_after answers s (all_but_last events)).queue extra
 
 -- a seat made looks alone; looks, and then a release
 pub record LooksAlone (k k' : Known) : Type 0 where

@@ -19,32 +19,38 @@ use Rattle.dns_stream_driver.specs.Story.{Story}
 
 module _ {W R F : Type 0} (answer : PolledRequest F R → ℕ → Answer) (answers : Serving) where
   -- a look that closes the connection
-  pub record ClosedByLook (why : Option Why) (core core' : ClientCore W R F) (last last' : Look) (n n' : List Event) (k k' : Known) (t t' : Traffic) : Type 0 where
+  pub record ClosedByLook (why : Option Why) (core core' : ClientCore W R F) (last last' : Look) (n n' : List Event) (k k' : Known)
+      (t t' : Traffic) : Type 0 where
     pub reason : Why
     pub why_is : why ≡ Some reason
     pub heard : HeardNews answer (Some reason) core core' last last' n n' k k'
     pub still : t' ≡ t
 
   -- a look, and then one own event
-  pub record LookedAndActed (client below below' : ℕ) (why : Option Why) (core core' : ClientCore W R F) (last last' : Look) (n n' : List Event) (k k' : Known) (t t' : Traffic) : Type 0 where
+  pub record LookedAndActed (client below below' : ℕ) (why : Option Why) (core core' : ClientCore W R F) (last last' : Look)
+      (n n' : List Event) (k k' : Known) (t t' : Traffic) : Type 0 where
     pub between : ClientCore W R F
     pub seen : List Event
     pub heard : HeardNews answer None core between last last' n seen k k'
     pub acted : Acted answer answers client below below' why between core' seen n' t t'
     pub wrote : NotedWrite answer between seen n' t t'
 
-  pub record MadeTurn (client below below' : ℕ) (why : Option Why) (core core' : ClientCore W R F) (last last' : Look) (n n' : List Event) (k k' : Known) (t t' : Traffic) : Type 0 where
-    pub either : ClosedByLook why core core' last last' n n' k k' t t' ⊎ LookedAndActed client below below' why core core' last last' n n' k k' t t'
+  pub record MadeTurn (client below below' : ℕ) (why : Option Why) (core core' : ClientCore W R F) (last last' : Look)
+      (n n' : List Event) (k k' : Known) (t t' : Traffic) : Type 0 where
+    pub either : ClosedByLook why core core' last last' n n' k k' t t'
+        ⊎ LookedAndActed client below below' why core core' last last' n n' k k' t t'
 
   -- memory ran out, at the look, or at the own event
-  pub record LookedAndPart (client below : ℕ) (core : ClientCore W R F) (last : Look) (n n' : List Event) (k k' : Known) (t t' : Traffic) : Type 0 where
+  pub record LookedAndPart (client below : ℕ) (core : ClientCore W R F) (last : Look) (n n' : List Event) (k k' : Known)
+      (t t' : Traffic) : Type 0 where
     pub between : ClientCore W R F
     pub look : Look
     pub seen : List Event
     pub heard : HeardNews answer None core between last look n seen k k'
     pub acted : ActedPart answer client below between seen n' t t'
 
-  pub record TurnedPart (client below : ℕ) (core : ClientCore W R F) (last : Look) (n n' : List Event) (k k' : Known) (t t' : Traffic) : Type 0 where
+  pub record TurnedPart (client below : ℕ) (core : ClientCore W R F) (last : Look) (n n' : List Event) (k k' : Known)
+      (t t' : Traffic) : Type 0 where
     pub either : (NotedWide n n' × (t' ≡ t)) ⊎ LookedAndPart client below core last n n' k k' t t'
 
   -- the core was closed by a look, for this reason, and no call of the link failed
@@ -71,6 +77,7 @@ module _ {W R F : Type 0} (answer : PolledRequest F R → ℕ → Answer) (answe
     pub nothing : s.received ≡ []
 
 -- a story that closes the connection, and what shows why
-pub record ClosingStory (answers : Serving) (s : Slate) (client : ℕ) (first : Look) (why : Why) (n n' : List Event) (k k' : Known) (t t' : Traffic) : Type 0 where
+pub record ClosingStory (answers : Serving) (s : Slate) (client : ℕ) (first : Look) (why : Why) (n n' : List Event) (k k' : Known)
+    (t t' : Traffic) : Type 0 where
   pub story : Story answers s client first (Some why) n n' k k' t t'
   pub shown : Shown answers s why n n' t t'

@@ -59,7 +59,8 @@ fn take_other<W: SharedService>(
     event: &Event,
 ) -> Result<Option<Why>, OutOfMemory>
     requires { W.can_call service.now }
-    ensures { IfOk result (λ why. TakesEvent (request_answer W.Future.answer W.Stream.answer) (serving (W.answer service.now) (W.hint service.now)) core.old core.new event.now why) }
+    ensures { IfOk result (λ why. TakesEvent (request_answer W.Future.answer W.Stream.answer)
+        (serving (W.answer service.now) (W.hint service.now)) core.old core.new event.now why) }
 {
     let outs = core.step(alloc, service, event)?;
     let why = closed_by(&outs);
@@ -95,8 +96,10 @@ fn take<J: Recorder, W: SharedService>(
     event: &Event,
 ) -> Result<Option<Why>, OutOfMemory>
     requires { W.can_call service.now }
-    ensures taken { IfOk result (λ why. TakesEvent (request_answer W.Future.answer W.Stream.answer) (serving (W.answer service.now) (W.hint service.now)) core.old core.new event.now why) }
-    ensures noted { Observed (J.tells journal.new) (J.tells journal.old) (NotedOrNot result (J.noted journal.old) event.now (J.noted journal.new)) }
+    ensures taken { IfOk result (λ why. TakesEvent (request_answer W.Future.answer W.Stream.answer)
+        (serving (W.answer service.now) (W.hint service.now)) core.old core.new event.now why) }
+    ensures noted { Observed (J.tells journal.new) (J.tells journal.old)
+        (NotedOrNot result (J.noted journal.old) event.now (J.noted journal.new)) }
 {
     journal.note(alloc, event)?;
     let why = step(alloc, core, service, event)?;
@@ -114,8 +117,10 @@ fn hand_over<J: Recorder, W: SharedService>(
     event: Event,
 ) -> Result<Option<Why>, OutOfMemory>
     requires { W.can_call service.now }
-    ensures taken { IfOk result (λ why. TakesEvent (request_answer W.Future.answer W.Stream.answer) (serving (W.answer service.now) (W.hint service.now)) core.old core.new event why) }
-    ensures noted { Observed (J.tells journal.new) (J.tells journal.old) (NotedOrNot result (J.noted journal.old) event (J.noted journal.new)) }
+    ensures taken { IfOk result (λ why. TakesEvent (request_answer W.Future.answer W.Stream.answer)
+        (serving (W.answer service.now) (W.hint service.now)) core.old core.new event why) }
+    ensures noted { Observed (J.tells journal.new) (J.tells journal.old)
+        (NotedOrNot result (J.noted journal.old) event (J.noted journal.new)) }
     ensures turn { below_of kept.new.turn ≡ turned (below_of kept.old.turn) event.kind }
     ensures last { kept.new.last ≡ kept.old.last }
 {
@@ -127,7 +132,8 @@ fn hand_over<J: Recorder, W: SharedService>(
 
 /// The request to be polled next, by the last one that was polled in this round.
 fn next_request<W: SharedService>(core: &ClientCore<W>, last: Option<u64>) -> Option<u64>
-    ensures { (answers : Serving) (s : Slate) → Stands (request_answer W.Future.answer W.Stream.answer) answers core.now s → result ≡ next_turn (below_of last) s.requests }
+    ensures { (answers : Serving) (s : Slate) → Stands (request_answer W.Future.answer W.Stream.answer) answers core.now s
+        → result ≡ next_turn (below_of last) s.requests }
 {
     match last {
         None => core.first_unfinished(),
@@ -156,8 +162,10 @@ fn turn_or_read<R: Wait, L: Link, C: Clock, W: SharedService>(
     kept: &TurnState,
 ) -> Result<Event, OutOfMemory>
     requires value { None ≡ slice_get (waiting core.now.state) 0 }
-    requires queue { (answers : Serving) (s : Slate) → Stands (request_answer W.Future.answer W.Stream.answer) answers core.now s → None ≡ slice_get s.queue 0 }
-    ensures { OwnEvent (request_answer W.Future.answer W.Stream.answer) L.tells L.traffic L.faults C.tells C.readings client (below_of kept.now.turn) core.now result link.old link.new clock.old clock.new }
+    requires queue { (answers : Serving) (s : Slate) → Stands (request_answer W.Future.answer W.Stream.answer) answers core.now s
+        → None ≡ slice_get s.queue 0 }
+    ensures { OwnEvent (request_answer W.Future.answer W.Stream.answer) L.tells L.traffic L.faults C.tells C.readings client
+        (below_of kept.now.turn) core.now result link.old link.new clock.old clock.new }
 {
     match next_request(core, kept.turn) {
         Some(request) => Ok(now_is(clock, client, EventKind::Turn { request })),
@@ -177,7 +185,8 @@ fn own_event<R: Wait, L: Link, C: Clock, W: SharedService>(
     clock: &mut C,
     buf: &mut [u8; ROOM],
 ) -> Result<Event, OutOfMemory>
-    ensures { OwnEvent (request_answer W.Future.answer W.Stream.answer) L.tells L.traffic L.faults C.tells C.readings client (below_of kept.now.turn) core.now result link.old link.new clock.old clock.new }
+    ensures { OwnEvent (request_answer W.Future.answer W.Stream.answer) L.tells L.traffic L.faults C.tells C.readings client
+        (below_of kept.now.turn) core.now result link.old link.new clock.old clock.new }
 {
     match core.front_frame() {
         Some(frame) => Ok(write_event(rt, client, link, clock, frame, core.write_timeout())),
@@ -212,13 +221,18 @@ pub(crate) fn act<R: Wait, L: Link, C: Clock, J: Recorder, W: SharedService>(
 ) -> Result<Option<Why>, OutOfMemory>
     requires { W.can_call service.now }
     ensures observed { IfOk result (λ why. Observed (L.tells link.new × J.tells journal.new) (L.tells link.old × J.tells journal.old)
-        (Acted (request_answer W.Future.answer W.Stream.answer) (serving (W.answer service.now) (W.hint service.now)) client (below_of kept.old.turn) (below_of kept.new.turn) why core.old core.new
+        (Acted (request_answer W.Future.answer W.Stream.answer) (serving (W.answer service.now) (W.hint service.now)) client
+        (below_of kept.old.turn) (below_of kept.new.turn) why core.old core.new
         (J.noted journal.old) (J.noted journal.new) (L.traffic link.old) (L.traffic link.new))) }
-    ensures clock { IfOk result (λ why. Observed (L.tells link.new × C.tells clock.new × J.tells journal.new) (L.tells link.old × C.tells clock.old × J.tells journal.old)
-        (Timed (J.noted journal.old) (J.noted journal.new) (L.traffic link.old).full_writes (L.traffic link.new).full_writes (C.readings clock.old) (C.readings clock.new))) }
-    ensures blame { IfOk result (λ why. ActedFor (request_answer W.Future.answer W.Stream.answer) (serving (W.answer service.now) (W.hint service.now)) why core.old core.new (L.faults link.old) (L.faults link.new)) }
+    ensures clock { IfOk result (λ why. Observed (L.tells link.new × C.tells clock.new × J.tells journal.new)
+        (L.tells link.old × C.tells clock.old × J.tells journal.old)
+        (Timed (J.noted journal.old) (J.noted journal.new) (L.traffic link.old).full_writes (L.traffic link.new).full_writes
+        (C.readings clock.old) (C.readings clock.new))) }
+    ensures blame { IfOk result (λ why. ActedFor (request_answer W.Future.answer W.Stream.answer)
+        (serving (W.answer service.now) (W.hint service.now)) why core.old core.new (L.faults link.old) (L.faults link.new)) }
     ensures again { IfOk result (λ why. Observed (L.tells link.new × J.tells journal.new) (L.tells link.old × J.tells journal.old)
-        (NotedWrite (request_answer W.Future.answer W.Stream.answer) core.old (J.noted journal.old) (J.noted journal.new) (L.traffic link.old) (L.traffic link.new))) }
+        (NotedWrite (request_answer W.Future.answer W.Stream.answer) core.old (J.noted journal.old) (J.noted journal.new)
+        (L.traffic link.old) (L.traffic link.new))) }
     ensures no_memory { OnErr result (Observed (L.tells link.new × J.tells journal.new) (L.tells link.old × J.tells journal.old)
         (ActedPart (request_answer W.Future.answer W.Stream.answer) client (below_of kept.old.turn) core.old
         (J.noted journal.old) (J.noted journal.new) (L.traffic link.old) (L.traffic link.new))) }

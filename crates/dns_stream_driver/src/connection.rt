@@ -50,8 +50,10 @@ fn admit_and_serve<R: Wait, L: Link, C: Clock, J: Recorder, W: SharedService>(
     ensures observed { IfOk result (λ why. Observed (L.tells link.new × J.tells journal.new) (L.tells link.old × J.tells journal.old)
         (ClosingStory (serving (W.answer service.now) (W.hint service.now)) (began client addr at look.now) client look.now why
         (J.noted journal.old) (J.noted journal.new) seat.old.known seat.new.known (L.traffic link.old) (L.traffic link.new))) }
-    ensures clock { IfOk result (λ why. Observed (L.tells link.new × C.tells clock.new × J.tells journal.new) (L.tells link.old × C.tells clock.old × J.tells journal.old)
-        (Timed (J.noted journal.old) (J.noted journal.new) (L.traffic link.old).full_writes (L.traffic link.new).full_writes (C.readings clock.old) (C.readings clock.new))) }
+    ensures clock { IfOk result (λ why. Observed (L.tells link.new × C.tells clock.new × J.tells journal.new)
+        (L.tells link.old × C.tells clock.old × J.tells journal.old)
+        (Timed (J.noted journal.old) (J.noted journal.new) (L.traffic link.old).full_writes (L.traffic link.new).full_writes
+        (C.readings clock.old) (C.readings clock.new))) }
     ensures no_memory { OnErr result (Observed (L.tells link.new × J.tells journal.new) (L.tells link.old × J.tells journal.old)
         (Broken (serving (W.answer service.now) (W.hint service.now)) (began client addr at look.now) client
         (J.noted journal.old) (J.noted journal.new) (L.traffic link.old) (L.traffic link.new))) }
@@ -93,13 +95,16 @@ fn serve_offer<R: Wait, L: Link, C: Clock, J: Recorder, W: SharedService>(
     ensures observed { IfOk result (λ why. Observed (L.tells link.new × J.tells journal.new) (L.tells link.old × J.tells journal.old)
         (WasOffered (serving (W.answer service.now) (W.hint service.now)) why client addr look.now
         (J.noted journal.old) (J.noted journal.new) seat.old.known seat.new.known (L.traffic link.old) (L.traffic link.new))) }
-    ensures clock { IfOk result (λ why. Observed (L.tells link.new × C.tells clock.new × J.tells journal.new) (L.tells link.old × C.tells clock.old × J.tells journal.old)
-        (Timed (J.noted journal.old) (J.noted journal.new) (L.traffic link.old).full_writes (L.traffic link.new).full_writes (C.readings clock.old) (C.readings clock.new))) }
+    ensures clock { IfOk result (λ why. Observed (L.tells link.new × C.tells clock.new × J.tells journal.new)
+        (L.tells link.old × C.tells clock.old × J.tells journal.old)
+        (Timed (J.noted journal.old) (J.noted journal.new) (L.traffic link.old).full_writes (L.traffic link.new).full_writes
+        (C.readings clock.old) (C.readings clock.new))) }
     ensures no_memory { OnErr result (Observed (L.tells link.new × J.tells journal.new) (L.tells link.old × J.tells journal.old)
         (Unserved (serving (W.answer service.now) (W.hint service.now)) client addr look.now
         (J.noted journal.old) (J.noted journal.new) (L.traffic link.old) (L.traffic link.new))) }
     ensures shown { IfOk result (λ why. Observed (L.tells link.new × J.tells journal.new) (L.tells link.old × J.tells journal.old)
-        (ShownFrom (serving (W.answer service.now) (W.hint service.now)) why client addr look.now (J.noted journal.old) (J.noted journal.new) (L.traffic link.old) (L.traffic link.new))) }
+        (ShownFrom (serving (W.answer service.now) (W.hint service.now)) why client addr look.now (J.noted journal.old)
+        (J.noted journal.new) (L.traffic link.old) (L.traffic link.new))) }
     ensures cause { IfOk result (λ why. Causes why seat.old.known seat.new.known (L.faults link.old) (L.faults link.new)) }
     ensures later { L.faults link.old ≤ L.faults link.new }
     ensures seat { LooksAlone seat.old.known seat.new.known }
@@ -139,10 +144,13 @@ pub fn serve_connection<R: Wait, L: Link, C: Clock, J: Recorder, W: SharedServic
         (J.noted journal.old) (J.noted journal.new) seat.known result.0.known (L.traffic link.old) (L.traffic link.new)) }
     // Where link and recorder tell: why the connection was closed.
     ensures shown { Observed (L.tells link.new × J.tells journal.new) (L.tells link.old × J.tells journal.old)
-        (EndShown (serving (W.answer service.now) (W.hint service.now)) result.1 client addr look.now (J.noted journal.old) (J.noted journal.new) (L.traffic link.old) (L.traffic link.new)) }
+        (EndShown (serving (W.answer service.now) (W.hint service.now)) result.1 client addr look.now (J.noted journal.old)
+        (J.noted journal.new) (L.traffic link.old) (L.traffic link.new)) }
     // Where the clock tells too.
-    ensures clock { WhereClosed result.1 (Observed (L.tells link.new × C.tells clock.new × J.tells journal.new) (L.tells link.old × C.tells clock.old × J.tells journal.old)
-        (TimedWhole (J.noted journal.old) (J.noted journal.new) (L.traffic link.old).full_writes (L.traffic link.new).full_writes (C.readings clock.old) (C.readings clock.new))) }
+    ensures clock { WhereClosed result.1 (Observed (L.tells link.new × C.tells clock.new × J.tells journal.new)
+        (L.tells link.old × C.tells clock.old × J.tells journal.old)
+        (TimedWhole (J.noted journal.old) (J.noted journal.new) (L.traffic link.old).full_writes (L.traffic link.new).full_writes
+        (C.readings clock.old) (C.readings clock.new))) }
     // Always.
     ensures cause { EndCauses result.1 seat.known result.0.known (L.faults link.old) (L.faults link.new) }
     ensures seat { LooksAndRelease seat.known result.0.known }

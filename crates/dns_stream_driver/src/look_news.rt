@@ -33,7 +33,8 @@ fn note_news<C: Clock, J: Recorder>(
         (NotedKinds (news_kinds kept.now.last look.now) (J.noted journal.old) (J.noted journal.new))) }
     ensures clock { OnOk result (Observed (C.tells clock.new × J.tells journal.new) (C.tells clock.old × J.tells journal.old)
         (Timed (J.noted journal.old) (J.noted journal.new) 0 0 (C.readings clock.old) (C.readings clock.new))) }
-    ensures no_memory { OnErr result (Observed (J.tells journal.new) (J.tells journal.old) (NotedWide (J.noted journal.old) (J.noted journal.new))) }
+    ensures no_memory { OnErr result (Observed (J.tells journal.new) (J.tells journal.old)
+        (NotedWide (J.noted journal.old) (J.noted journal.new))) }
 {
     note_version(alloc, clock, journal, &kept.last, look)?;
     note_shutdown(alloc, clock, journal, &kept.last, look)?;
@@ -81,11 +82,14 @@ pub(crate) fn poll_book<R: Wait, C: Clock, J: Recorder, W: SharedService>(
 ) -> Result<Option<Why>, OutOfMemory>
     requires { seat.old.book ≡ book.now }
     ensures observed { IfOk result (λ why. Observed (J.tells journal.new) (J.tells journal.old)
-        (HeardNews (request_answer W.Future.answer W.Stream.answer) why core.old core.new kept.old.last kept.new.last (J.noted journal.old) (J.noted journal.new) seat.old.known seat.new.known)) }
-    ensures no_memory { OnErr result (Observed (J.tells journal.new) (J.tells journal.old) (NotedWide (J.noted journal.old) (J.noted journal.new))) }
+        (HeardNews (request_answer W.Future.answer W.Stream.answer) why core.old core.new kept.old.last kept.new.last
+        (J.noted journal.old) (J.noted journal.new) seat.old.known seat.new.known)) }
+    ensures no_memory { OnErr result (Observed (J.tells journal.new) (J.tells journal.old)
+        (NotedWide (J.noted journal.old) (J.noted journal.new))) }
     ensures clock { IfOk result (λ why. Observed (C.tells clock.new × J.tells journal.new) (C.tells clock.old × J.tells journal.old)
         (Timed (J.noted journal.old) (J.noted journal.new) 0 0 (C.readings clock.old) (C.readings clock.new))) }
-    ensures blame { IfOk result (λ why. HeardFor (request_answer W.Future.answer W.Stream.answer) why core.old core.new seat.old.known seat.new.known) }
+    ensures blame { IfOk result (λ why. HeardFor
+        (request_answer W.Future.answer W.Stream.answer) why core.old core.new seat.old.known seat.new.known) }
     ensures looked { LookedOnce seat.old.known seat.new.known }
     ensures turn { kept.new.turn ≡ kept.old.turn }
     ensures book { seat.new.book ≡ seat.old.book }

@@ -25,11 +25,14 @@ fn read_kind<R: Wait, L: Link>(
     buf: &mut [u8; ROOM],
     read_wait: u64,
 ) -> Result<EventKind, OutOfMemory>
-    ensures moved { IfOk result (λ kind. Observed (L.tells link.new) (L.tells link.old) (MovedBy kind [] 0 (L.traffic link.old) (L.traffic link.new))) }
+    ensures moved { IfOk result (λ kind. Observed (L.tells link.new) (L.tells link.old)
+        (MovedBy kind [] 0 (L.traffic link.old) (L.traffic link.new))) }
     ensures kind { IfOk result (λ kind. IsReadEvent kind) }
     ensures blame { IfOk result (λ kind. Blames kind (L.faults link.old) (L.faults link.new)) }
-    ensures again { IfOk result (λ kind. Observed (L.tells link.new) (L.tells link.old) (WroteWhole kind [] (L.traffic link.old) (L.traffic link.new))) }
-    ensures room { IfOk result (λ kind. Observed (L.tells link.new) (L.tells link.old) ((L.traffic link.new).full_writes ≡ (L.traffic link.old).full_writes)) }
+    ensures again { IfOk result (λ kind. Observed (L.tells link.new) (L.tells link.old)
+        (WroteWhole kind [] (L.traffic link.old) (L.traffic link.new))) }
+    ensures room { IfOk result (λ kind. Observed (L.tells link.new) (L.tells link.old)
+        ((L.traffic link.new).full_writes ≡ (L.traffic link.old).full_writes)) }
     ensures no_memory { OnErr result (Observed (L.tells link.new) (L.tells link.old) (Unread (L.traffic link.old) (L.traffic link.new))) }
     ensures later { L.faults link.old ≤ L.faults link.new }
 {
@@ -57,11 +60,14 @@ pub(crate) fn read_event<R: Wait, L: Link, C: Clock>(
     buf: &mut [u8; ROOM],
     read_wait: u64,
 ) -> Result<Event, OutOfMemory>
-    ensures moved { IfOk result (λ event. Observed (L.tells link.new) (L.tells link.old) (MovedBy event.kind [] 0 (L.traffic link.old) (L.traffic link.new))) }
-    ensures clock { IfOk result (λ event. Observed (L.tells link.new × C.tells clock.new) (L.tells link.old × C.tells clock.old) (TimedOne event (L.traffic link.old).full_writes (L.traffic link.new).full_writes (C.readings clock.old) (C.readings clock.new))) }
+    ensures moved { IfOk result (λ event. Observed (L.tells link.new) (L.tells link.old)
+        (MovedBy event.kind [] 0 (L.traffic link.old) (L.traffic link.new))) }
+    ensures clock { IfOk result (λ event. Observed (L.tells link.new × C.tells clock.new) (L.tells link.old × C.tells clock.old)
+        (TimedOne event (L.traffic link.old).full_writes (L.traffic link.new).full_writes (C.readings clock.old) (C.readings clock.new))) }
     ensures kind { IfOk result (λ event. (event.client ≡ client) × IsReadEvent event.kind) }
     ensures blame { IfOk result (λ event. Blames event.kind (L.faults link.old) (L.faults link.new)) }
-    ensures again { IfOk result (λ event. Observed (L.tells link.new) (L.tells link.old) (WroteWhole event.kind [] (L.traffic link.old) (L.traffic link.new))) }
+    ensures again { IfOk result (λ event. Observed (L.tells link.new) (L.tells link.old)
+        (WroteWhole event.kind [] (L.traffic link.old) (L.traffic link.new))) }
     ensures no_memory { OnErr result (Observed (L.tells link.new) (L.tells link.old) (Unread (L.traffic link.old) (L.traffic link.new))) }
     ensures later { L.faults link.old ≤ L.faults link.new }
 {

@@ -43,14 +43,20 @@ fn turn_once<R: Wait, L: Link, C: Clock, J: Recorder, W: SharedService>(
     requires book { seat.old.book ≡ book.now }
     requires can_call { W.can_call service.now }
     ensures observed { IfOk result (λ why. Observed (L.tells link.new × J.tells journal.new) (L.tells link.old × J.tells journal.old)
-        (MadeTurn (request_answer W.Future.answer W.Stream.answer) (serving (W.answer service.now) (W.hint service.now)) client (below_of kept.old.turn) (below_of kept.new.turn) why core.old core.new kept.old.last kept.new.last
+        (MadeTurn (request_answer W.Future.answer W.Stream.answer) (serving (W.answer service.now) (W.hint service.now)) client
+        (below_of kept.old.turn) (below_of kept.new.turn) why core.old core.new kept.old.last kept.new.last
         (J.noted journal.old) (J.noted journal.new) seat.old.known seat.new.known (L.traffic link.old) (L.traffic link.new))) }
-    ensures clock { IfOk result (λ why. Observed (L.tells link.new × C.tells clock.new × J.tells journal.new) (L.tells link.old × C.tells clock.old × J.tells journal.old)
-        (Timed (J.noted journal.old) (J.noted journal.new) (L.traffic link.old).full_writes (L.traffic link.new).full_writes (C.readings clock.old) (C.readings clock.new))) }
+    ensures clock { IfOk result (λ why. Observed (L.tells link.new × C.tells clock.new × J.tells journal.new)
+        (L.tells link.old × C.tells clock.old × J.tells journal.old)
+        (Timed (J.noted journal.old) (J.noted journal.new) (L.traffic link.old).full_writes (L.traffic link.new).full_writes
+        (C.readings clock.old) (C.readings clock.new))) }
     ensures no_memory { OnErr result (Observed (L.tells link.new × J.tells journal.new) (L.tells link.old × J.tells journal.old)
-        (TurnedPart (request_answer W.Future.answer W.Stream.answer) (serving (W.answer service.now) (W.hint service.now)) client (below_of kept.old.turn) core.old kept.old.last
+        (TurnedPart (request_answer W.Future.answer W.Stream.answer) (serving (W.answer service.now) (W.hint service.now)) client
+        (below_of kept.old.turn) core.old kept.old.last
         (J.noted journal.old) (J.noted journal.new) seat.old.known seat.new.known (L.traffic link.old) (L.traffic link.new))) }
-    ensures cause { IfOk result (λ why. TurnedFor (request_answer W.Future.answer W.Stream.answer) (serving (W.answer service.now) (W.hint service.now)) why core.old core.new seat.old.known seat.new.known (L.faults link.old) (L.faults link.new)) }
+    ensures cause { IfOk result (λ why. TurnedFor (request_answer W.Future.answer W.Stream.answer)
+        (serving (W.answer service.now) (W.hint service.now)) why core.old core.new seat.old.known seat.new.known
+        (L.faults link.old) (L.faults link.new)) }
     ensures later { L.faults link.old ≤ L.faults link.new }
     ensures looked { LookedOnce seat.old.known seat.new.known }
     ensures same { seat.new.book ≡ seat.old.book }
@@ -81,16 +87,22 @@ pub(crate) fn serve_core<R: Wait, L: Link, C: Clock, J: Recorder, W: SharedServi
     requires book { seat.old.book ≡ book.now }
     requires can_call { W.can_call service.now }
     ensures observed { IfOk result (λ why. Observed (L.tells link.new × J.tells journal.new) (L.tells link.old × J.tells journal.old)
-        ((s : Slate) → BeginsOpen (request_answer W.Future.answer W.Stream.answer) (serving (W.answer service.now) (W.hint service.now)) core.old look.now s
+        ((s : Slate) → BeginsOpen (request_answer W.Future.answer W.Stream.answer)
+        (serving (W.answer service.now) (W.hint service.now)) core.old look.now s
         → ClosingStory (serving (W.answer service.now) (W.hint service.now)) s client look.now why
         (J.noted journal.old) (J.noted journal.new) seat.old.known seat.new.known (L.traffic link.old) (L.traffic link.new))) }
-    ensures clock { IfOk result (λ why. Observed (L.tells link.new × C.tells clock.new × J.tells journal.new) (L.tells link.old × C.tells clock.old × J.tells journal.old)
-        (Timed (J.noted journal.old) (J.noted journal.new) (L.traffic link.old).full_writes (L.traffic link.new).full_writes (C.readings clock.old) (C.readings clock.new))) }
+    ensures clock { IfOk result (λ why. Observed (L.tells link.new × C.tells clock.new × J.tells journal.new)
+        (L.tells link.old × C.tells clock.old × J.tells journal.old)
+        (Timed (J.noted journal.old) (J.noted journal.new) (L.traffic link.old).full_writes (L.traffic link.new).full_writes
+        (C.readings clock.old) (C.readings clock.new))) }
     ensures no_memory { OnErr result (Observed (L.tells link.new × J.tells journal.new) (L.tells link.old × J.tells journal.old)
-        ((s : Slate) → BeginsOpen (request_answer W.Future.answer W.Stream.answer) (serving (W.answer service.now) (W.hint service.now)) core.old look.now s
+        ((s : Slate) → BeginsOpen (request_answer W.Future.answer W.Stream.answer)
+        (serving (W.answer service.now) (W.hint service.now)) core.old look.now s
         → Broken (serving (W.answer service.now) (W.hint service.now)) s client
         (J.noted journal.old) (J.noted journal.new) (L.traffic link.old) (L.traffic link.new))) }
-    ensures cause { IfOk result (λ why. (s : Slate) → BeginsOpen (request_answer W.Future.answer W.Stream.answer) (serving (W.answer service.now) (W.hint service.now)) core.old look.now s
+    ensures cause { IfOk result (λ why. (s : Slate)
+        → BeginsOpen (request_answer W.Future.answer W.Stream.answer)
+        (serving (W.answer service.now) (W.hint service.now)) core.old look.now s
         → Causes why seat.old.known seat.new.known (L.faults link.old) (L.faults link.new)) }
     ensures later { L.faults link.old ≤ L.faults link.new }
     ensures seat { LooksAlone seat.old.known seat.new.known }

@@ -48,14 +48,19 @@ fn write_some<R: Wait, L: Link, C: Clock>(
 ) -> Result<usize, WriteEnd>
     requires { done ≤ length frame.now }
     ensures moves { Observed (L.tells link.new) (L.tells link.old)
-        (MatchResult result (λ n. WroteFront n (drop done frame.now) (L.traffic link.old) (L.traffic link.new)) (λ end. WroteFront 0 (drop done frame.now) (L.traffic link.old) (L.traffic link.new))) }
+        (MatchResult result (λ n. WroteFront n (drop done frame.now) (L.traffic link.old) (L.traffic link.new))
+        (λ end. WroteFront 0 (drop done frame.now) (L.traffic link.old) (L.traffic link.new))) }
     ensures clock { Observed (L.tells link.new × C.tells clock.new) (L.tells link.old × C.tells clock.old)
-        (MatchResult result (λ n. Waited (L.traffic link.old).full_writes (L.traffic link.new).full_writes (C.readings clock.old) (C.readings clock.new))
-        (λ end. WaitedTo end (L.traffic link.old).full_writes (L.traffic link.new).full_writes (C.readings clock.old) (C.readings clock.new))) }
+        (MatchResult result (λ n. Waited (L.traffic link.old).full_writes (L.traffic link.new).full_writes (C.readings clock.old)
+        (C.readings clock.new))
+        (λ end. WaitedTo end (L.traffic link.old).full_writes (L.traffic link.new).full_writes (C.readings clock.old)
+        (C.readings clock.new))) }
     ensures bound { MatchResult result (λ n. done + n ≤ length frame.now) (λ end. EndsWriting end done (length frame.now) start limit) }
-    ensures blame { MatchResult result (λ n. L.faults link.new ≡ L.faults link.old) (λ end. EndBlames end (L.faults link.old) (L.faults link.new)) }
+    ensures blame { MatchResult result (λ n. L.faults link.new ≡ L.faults link.old)
+        (λ end. EndBlames end (L.faults link.old) (L.faults link.new)) }
     ensures again { Observed (L.tells link.new) (L.tells link.old)
-        (MatchResult result (λ n. (L.traffic link.old).full_writes ≤ (L.traffic link.new).full_writes) (λ end. EndAgain end (L.traffic link.old).full_writes (L.traffic link.new).full_writes)) }
+        (MatchResult result (λ n. (L.traffic link.old).full_writes ≤ (L.traffic link.new).full_writes)
+        (λ end. EndAgain end (L.traffic link.old).full_writes (L.traffic link.new).full_writes)) }
 {
     if done >= frame.len() {
         return Err(WriteEnd::Whole);
@@ -83,10 +88,13 @@ fn write_frame<R: Wait, L: Link, C: Clock>(
     start: u64,
     limit: u64,
 ) -> WriteEnd
-    ensures moves { Observed (L.tells link.new) (L.tells link.old) (WroteUntil result frame.now start limit (L.traffic link.old) (L.traffic link.new)) }
-    ensures clock { Observed (L.tells link.new × C.tells clock.new) (L.tells link.old × C.tells clock.old) (WaitedTo result (L.traffic link.old).full_writes (L.traffic link.new).full_writes (C.readings clock.old) (C.readings clock.new)) }
+    ensures moves { Observed (L.tells link.new) (L.tells link.old)
+        (WroteUntil result frame.now start limit (L.traffic link.old) (L.traffic link.new)) }
+    ensures clock { Observed (L.tells link.new × C.tells clock.new) (L.tells link.old × C.tells clock.old)
+        (WaitedTo result (L.traffic link.old).full_writes (L.traffic link.new).full_writes (C.readings clock.old) (C.readings clock.new)) }
     ensures blame { EndBlames result (L.faults link.old) (L.faults link.new) }
-    ensures again { Observed (L.tells link.new) (L.tells link.old) (EndAgain result (L.traffic link.old).full_writes (L.traffic link.new).full_writes) }
+    ensures again { Observed (L.tells link.new) (L.tells link.old)
+        (EndAgain result (L.traffic link.old).full_writes (L.traffic link.new).full_writes) }
 {
     let mut done = 0;
     for _ in rt.forever() {
@@ -122,12 +130,15 @@ pub(crate) fn write_event<R: Wait, L: Link, C: Clock>(
     frame: &[u8],
     limit: u64,
 ) -> Event
-    ensures moved { Observed (L.tells link.new) (L.tells link.old) (MovedBy result.kind (frame.now ∷ []) limit (L.traffic link.old) (L.traffic link.new)) }
-    ensures clock { Observed (L.tells link.new × C.tells clock.new) (L.tells link.old × C.tells clock.old) (TimedOne result (L.traffic link.old).full_writes (L.traffic link.new).full_writes (C.readings clock.old) (C.readings clock.new)) }
+    ensures moved { Observed (L.tells link.new) (L.tells link.old)
+        (MovedBy result.kind (frame.now ∷ []) limit (L.traffic link.old) (L.traffic link.new)) }
+    ensures clock { Observed (L.tells link.new × C.tells clock.new) (L.tells link.old × C.tells clock.old)
+        (TimedOne result (L.traffic link.old).full_writes (L.traffic link.new).full_writes (C.readings clock.old) (C.readings clock.new)) }
     ensures client { result.client ≡ client }
     ensures kind { IsWrittenEvent result.kind }
     ensures blame { Blames result.kind (L.faults link.old) (L.faults link.new) }
-    ensures again { Observed (L.tells link.new) (L.tells link.old) (WroteWhole result.kind frame.now (L.traffic link.old) (L.traffic link.new)) }
+    ensures again { Observed (L.tells link.new) (L.tells link.old)
+        (WroteWhole result.kind frame.now (L.traffic link.old) (L.traffic link.new)) }
 {
     let (start, _) = clock.now();
     match write_frame(rt, link, clock, frame, start, limit) {

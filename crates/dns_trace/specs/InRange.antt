@@ -1,4 +1,5 @@
--- Settings and events whose configurations are in range, whose numbers and octets are in the ranges of their types, and whose client is 0 where
+-- Settings and events whose configurations are in range, whose numbers and octets are in the ranges of their types, and whose
+-- client is 0 where
 -- all clients hear them.
 use Rattle.std.specs.Prelude.{◌≡◌, ℕ, ◌<◌, ◌^◌, List, length, IfSome}
 use Rattle.std.specs.List.{All}

@@ -1,4 +1,5 @@
--- Which lines say nothing, and which are text. The lines of a text are std's: each ends with LF, before which one CR is dropped, and the last may
+-- Which lines say nothing, and which are text. The lines of a text are std's: each ends with LF, before which one CR is dropped,
+-- and the last may
 -- lack both.
 use Rattle.std.specs.Prelude.{ℕ, ◌==◌, ◌||◌, Bool, List, length, slice_index}
 use Rattle.std.specs.Int.{is_in_range}

@@ -10,7 +10,8 @@ use Rattle.dns_trace.specs.declared.reason.Reason.TheVariants.{Value}
 
 -- a letter, a digit, `-`, `_` or the dot
 abbrev pub is_name_character : ℕ → Bool
-is_name_character c = is_in_range 48 57 c || (is_in_range 65 90 c || (is_in_range 97 122 c || (nat_eq c 45 || (nat_eq c 95 || nat_eq c 46))))
+is_name_character c = is_in_range 48 57 c
+    || (is_in_range 65 90 c || (is_in_range 97 122 c || (nat_eq c 45 || (nat_eq c 95 || nat_eq c 46))))
 
 abbrev pub ends_in_dot : List ℕ → Bool
 ends_in_dot w = nat_eq (slice_index w (length w - 1)) 46

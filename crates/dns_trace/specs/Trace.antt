@@ -82,7 +82,8 @@ kind_words Close e = client_words (codes "close") e []
 kind_words (Write took) e = client_words (codes "write") e (decimal took ∷ [])
 kind_words Tick e = client_words (codes "tick") e []
 kind_words Release e = client_words (codes "release") e []
-kind_words (Reconfigure dgram stream) e = wide_words (codes "reconfigure") e (dgram_words dgram ++ (stream_words stream ++ budget_words stream.connection_config))
+kind_words (Reconfigure dgram stream) e =
+    wide_words (codes "reconfigure") e (dgram_words dgram ++ (stream_words stream ++ budget_words stream.connection_config))
 kind_words Shutdown e = wide_words (codes "shutdown") e []
 
 abbrev pub event_words : Event → List (List ℕ)

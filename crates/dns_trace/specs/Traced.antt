@@ -44,6 +44,7 @@ unfoldable pub traced : List ℕ → Result (Settings × List Event) (ℕ × Rea
 traced text = whole_trace (after_lines trace_line 1 nothing_traced (lines text))
 
 -- a reader gave the settings and the events, or the first bad line and the reason, unless memory was wanting
-abbrev pub ReadsTrace : {V : Type 0} → (V → List Event) → Result (Settings × V) TraceError → Result (Settings × List Event) (ℕ × Reason) → Type 0
+abbrev pub ReadsTrace : {V : Type 0} → (V → List Event) → Result (Settings × V) TraceError
+    → Result (Settings × List Event) (ℕ × Reason) → Type 0
 ReadsTrace events (Ok r) read = read ≡ Ok (r.0, events r.1)
 ReadsTrace events (Err e) read = RefusesLine e read

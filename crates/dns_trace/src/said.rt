@@ -27,7 +27,15 @@ impl Model for SaidSettings {
 
     ghost Value = { Said };
 
-    ghost view = { λ s. record { strict = s.strict; edns = s.edns; secret = s.secret; denied = s.denied.items; dgram = s.dgram; stream = s.stream; budget = s.budget } };
+    ghost view = { λ s. record {
+      strict = s.strict;
+      edns = s.edns;
+      secret = s.secret;
+      denied = s.denied.items;
+      dgram = s.dgram;
+      stream = s.stream;
+      budget = s.budget;
+    } };
 }
 
 impl SaidSettings {

@@ -90,7 +90,8 @@ fn begin_wide(text: &mut TextWriter, name: &str, event: &Event) -> Result<(), Ou
 /// A name and `AT SECS CLIENT`.
 #[tactic(auto, using(crate::proofs::Starts::starts))]
 fn begin(text: &mut TextWriter, name: &str, event: &Event) -> Result<(), OutOfMemory>
-    ensures ok { OnOk result (text.new ≡ text.old ++ name.now ++ spaced (decimal event.now.at ∷ decimal event.now.secs ∷ decimal event.now.client ∷ [])) }
+    ensures ok { OnOk result (text.new ≡ text.old ++ name.now
+        ++ spaced (decimal event.now.at ∷ decimal event.now.secs ∷ decimal event.now.client ∷ [])) }
     ensures err { OnErr result (StartsWith text.new text.old) }
 {
     begin_wide(text, name, event)?;
@@ -153,7 +154,8 @@ fn datagram_line(
     addr: &SocketAddr,
     octets: &Octets,
 ) -> Result<(), OutOfMemory>
-    ensures ok { OnOk result (text.new ≡ text.old ++ line_of_words (client_words (codes "datagram") event.now (addr_words addr.now ++ octets_word octets.now ∷ []))) }
+    ensures ok { OnOk result (text.new ≡ text.old
+        ++ line_of_words (client_words (codes "datagram") event.now (addr_words addr.now ++ octets_word octets.now ∷ []))) }
     ensures err { OnErr result (StartsWith text.new text.old) }
 {
     begin(text, "datagram", event)?;
@@ -169,7 +171,8 @@ fn config_words(
     dgram: &DgramConfig,
     stream: &StreamConfig,
 ) -> Result<(), OutOfMemory>
-    ensures ok { OnOk result (text.new ≡ text.old ++ spaced (dgram_words dgram.now ++ (stream_words stream.now ++ budget_words stream.now.connection_config))) }
+    ensures ok { OnOk result (text.new ≡ text.old
+        ++ spaced (dgram_words dgram.now ++ (stream_words stream.now ++ budget_words stream.now.connection_config))) }
     ensures err { OnErr result (StartsWith text.new text.old) }
 {
     dgram_words(text, dgram)?;
@@ -185,7 +188,9 @@ fn reconfigure_line(
     dgram: &DgramConfig,
     stream: &StreamConfig,
 ) -> Result<(), OutOfMemory>
-    ensures ok { OnOk result (text.new ≡ text.old ++ line_of_words (wide_words (codes "reconfigure") event.now (dgram_words dgram.now ++ (stream_words stream.now ++ budget_words stream.now.connection_config)))) }
+    ensures ok { OnOk result (text.new ≡ text.old
+        ++ line_of_words (wide_words (codes "reconfigure") event.now
+        (dgram_words dgram.now ++ (stream_words stream.now ++ budget_words stream.now.connection_config)))) }
     ensures err { OnErr result (StartsWith text.new text.old) }
 {
     begin_wide(text, "reconfigure", event)?;

@@ -121,7 +121,8 @@ TransferFits bs o = (k : ℕ) (b : List ResourceRecord) → slice_get bs k ≡ S
 
 -- the records of all replies, joined, are those of the transfer
 abbrev pub TransfersAreWhole : Type 0
-TransfersAreWhole = (z : ZoneState) (o : List ℕ) (n : ℕ) → TransferFits (bunched (transfer_records z)) o → length (bunched (transfer_records z)) ≤ n → joined_answers (transfer z o) n ≡ transfer_records z
+TransfersAreWhole = (z : ZoneState) (o : List ℕ) (n : ℕ) → TransferFits (bunched (transfer_records z)) o
+    → length (bunched (transfer_records z)) ≤ n → joined_answers (transfer z o) n ≡ transfer_records z
 
 -- each reply fits 65,535 octets
 abbrev pub TransfersFit : Type 0
@@ -137,7 +138,8 @@ abbrev pub IsSmall : ResourceRecord → Type 0
 IsSmall r = length (record_octets r) ≤ record_limit
 
 abbrev pub SmallTransfersFit : Type 0
-SmallTransfersFit = (z : ZoneState) (o : List ℕ) (q : Question) → (questions_of o).0 ≡ q ∷ [] → IsName q.qname → AllByRecursion IsSmall (transfer_records z) → TransferFits (bunched (transfer_records z)) o
+SmallTransfersFit = (z : ZoneState) (o : List ℕ) (q : Question) → (questions_of o).0 ≡ q ∷ [] → IsName q.qname
+    → AllByRecursion IsSmall (transfer_records z) → TransferFits (bunched (transfer_records z)) o
 
 -- ---- as a transaction
 
@@ -149,7 +151,8 @@ status_behind a (suc n) = answer_status (a n) (status_behind a n)
 -- once the feedback of an answer with a reply was heard, and before the reply is queued, the request is in its transaction: so no
 -- reply is dropped where the queue is full
 abbrev pub TransfersAreTransactions : Type 0
-TransfersAreTransactions = (z : ZoneState) (o : List ℕ) (k : ℕ) (m : Msg) → TransferFits (bunched (transfer_records z)) o → answer_message (transfer z o k) ≡ Some m → status_behind (transfer z o) (suc k) ≡ InTransaction
+TransfersAreTransactions = (z : ZoneState) (o : List ℕ) (k : ℕ) (m : Msg) → TransferFits (bunched (transfer_records z)) o
+    → answer_message (transfer z o k) ≡ Some m → status_behind (transfer z o) (suc k) ≡ InTransaction
 
 -- behind all replies, and one answer that says so, it is not
 abbrev pub TransactionsEnd : Type 0

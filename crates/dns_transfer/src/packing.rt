@@ -95,7 +95,8 @@ impl Packing {
     /// Packs the SOA records of a list.
     pub(crate) fn pack_soa(&mut self, alloc: Global, records: &[Record]) -> Result<(), OutOfMemory>
         requires { AreLawful records.now }
-        ensures { OnOk result ((rest : List ResourceRecord) → packed self.new rest ≡ packed self.old (map record_of (filter (is_of 6) records.now) ++ rest)) }
+        ensures { OnOk result ((rest : List ResourceRecord)
+            → packed self.new rest ≡ packed self.old (map record_of (filter (is_of 6) records.now) ++ rest)) }
     {
         'each: for record in records {
             if record.rdata.rtype() == Rtype::SOA {
@@ -112,7 +113,8 @@ impl Packing {
         records: &[Record],
     ) -> Result<(), OutOfMemory>
         requires { AreLawful records.now }
-        ensures { OnOk result ((rest : List ResourceRecord) → packed self.new rest ≡ packed self.old (map record_of (filter is_no_soa records.now) ++ rest)) }
+        ensures { OnOk result ((rest : List ResourceRecord)
+            → packed self.new rest ≡ packed self.old (map record_of (filter is_no_soa records.now) ++ rest)) }
     {
         'each: for record in records {
             if record.rdata.rtype() != Rtype::SOA {

@@ -58,6 +58,7 @@ EndsAs Lacking OutOfMemory = Unit {0}
 EndsAs end result = ⊥
 
 -- connections were accepted without a count, until a look showed a shutdown, or memory ran out
-abbrev pub ConnectionsRan : StreamEnd → Type 0 → Type 0 → Known → Known → AcceptTraffic → AcceptTraffic → List SocketAddr → List SocketAddr → ℕ → ℕ → Type 0
+abbrev pub ConnectionsRan : StreamEnd → Type 0 → Type 0 → Known → Known → AcceptTraffic → AcceptTraffic → List SocketAddr
+    → List SocketAddr → ℕ → ℕ → Type 0
 ConnectionsRan ShutDown now before k k' a b given given' f f' = TookUntilShut 0 now before k k' a b given given' f f'
 ConnectionsRan OutOfMemory now before k k' a b given given' f f' = TookAlmost 0 now before k k' a b given given' f f'

@@ -71,8 +71,10 @@ where
         K: PreConnect<A::Link>,
         requires place { IsSeatAt (arc_value self.now.book) place.old }
         requires can_call { W.can_call (arc_value self.now.service) }
-        ensures observed { AcceptsTo result 0 (A.tells accept.new × P.tells spawner.new) (A.tells accept.old × P.tells spawner.old) (known_of place.old) (known_of place.new)
-            (A.accept_traffic accept.old) (A.accept_traffic accept.new) (P.given spawner.old) (P.given spawner.new) (A.faults accept.old) (A.faults accept.new) }
+        ensures observed { AcceptsTo result 0 (A.tells accept.new × P.tells spawner.new) (A.tells accept.old × P.tells spawner.old)
+            (known_of place.old) (known_of place.new)
+            (A.accept_traffic accept.old) (A.accept_traffic accept.new) (P.given spawner.old) (P.given spawner.new)
+            (A.faults accept.old) (A.faults accept.new) }
         ensures place { IsSeatAt (arc_value self.now.book) place.new }
         ensures accepts_later { A.faults accept.old ≤ A.faults accept.new }
         ensures starts_later { P.faults spawner.old ≤ P.faults spawner.new }

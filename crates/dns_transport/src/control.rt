@@ -64,7 +64,8 @@ impl Control {
     /// Shuts the server down. It is never refused.
     pub fn shutdown<R: Wait>(&mut self, rt: &R) -> Result<(), Error>
         ensures book { self.new.book ≡ self.old.book }
-        ensures called { Called self.old.known Call.Shutdown (Reply.Look (record (state_met self.new.known) { closed = true })) self.new.known }
+        ensures called { Called self.old.known Call.Shutdown
+            (Reply.Look (record (state_met self.new.known) { closed = true })) self.new.known }
         ensures never { result ≡ Ok tt }
     {
         self.book.shutdown(rt, &mut self.seat);
@@ -88,7 +89,8 @@ impl Control {
     pub fn await_shutdown<R: Wait, C: Clock>(&mut self, rt: &R, clock: &mut C, millis: u64) -> bool
         ensures book { self.new.book ≡ self.old.book }
         ensures looks { Awaited result self.old.known self.new.known }
-        ensures clock { Observed (C.tells clock.new) (C.tells clock.old) (TimePassed result millis (C.readings clock.old) (C.readings clock.new)) }
+        ensures clock { Observed (C.tells clock.new) (C.tells clock.old)
+            (TimePassed result millis (C.readings clock.old) (C.readings clock.new)) }
     {
         let first = clock.now();
         for _ in rt.forever() {
@@ -110,8 +112,10 @@ impl Control {
     ) -> Option<bool>
         ensures book { self.new.book ≡ self.old.book }
         ensures called { Called self.old.known Call.Look (Reply.Look (state_met self.new.known)) self.new.known }
-        ensures exactly { MatchOption result (¬ IsDown (state_met self.new.known)) (λ down. IsTrue down ↔ IsDown (state_met self.new.known)) }
-        ensures clock { Observed (C.tells clock.new) (C.tells clock.old) (ReadAgain result start millis (C.readings clock.old) (C.readings clock.new)) }
+        ensures exactly { MatchOption result (¬ IsDown (state_met self.new.known))
+            (λ down. IsTrue down ↔ IsDown (state_met self.new.known)) }
+        ensures clock { Observed (C.tells clock.new) (C.tells clock.old)
+            (ReadAgain result start millis (C.readings clock.old) (C.readings clock.new)) }
     {
         if self.is_shutdown(rt) {
             return Some(true);

@@ -50,7 +50,13 @@ impl<D, B, W, C> Model for DgramServer<D, B, W, C> {
 
     ghost Value = { DgramParts D W C };
 
-    ghost view = { λ s. record { sock = s.sock; service = arc_value s.service; clock = s.clock; book = arc_value s.book; known = known_of s.seat } };
+    ghost view = { λ s. record {
+      sock = s.sock;
+      service = arc_value s.service;
+      clock = s.clock;
+      book = arc_value s.book;
+      known = known_of s.seat;
+    } };
 
     ghost invariant = { λ s. IsSeatAt (arc_value s.book) s.seat × (arc_value s.metrics ≡ false) };
 }
@@ -97,7 +103,13 @@ impl<D: AsyncDgramSock + Drop, B: BufSource + Drop, W: SharedService, C: Clock +
     fn on(server_parts: ServerParts, sock: D, buf: B, service: Arc<W>, clock: C) -> Self
         requires seat { server_parts.seat.book ≡ arc_value server_parts.book }
         requires metrics { arc_value server_parts.metrics ≡ false }
-        ensures { result ≡ record { sock = sock; service = arc_value service; clock = clock; book = arc_value server_parts.book; known = server_parts.seat.known } }
+        ensures { result ≡ record {
+          sock = sock;
+          service = arc_value service;
+          clock = clock;
+          book = arc_value server_parts.book;
+          known = server_parts.seat.known;
+        } }
     {
         let ServerParts {
             book,
@@ -144,10 +156,13 @@ impl<D: AsyncDgramSock + Drop, B: BufSource + Drop, W: SharedService, C: Clock +
     pub fn run<R: Wait, J: Recorder>(&mut self, rt: &R, alloc: Global, journal: &mut J) -> DgramEnd
         requires { W.can_call self.old.service }
         // Where socket, clock and recorder tell.
-        ensures observed { Observed (D.tells self.new.sock × C.tells self.new.clock × J.tells journal.new) (D.tells self.old.sock × C.tells self.old.clock × J.tells journal.old)
+        ensures observed { Observed (D.tells self.new.sock × C.tells self.new.clock × J.tells journal.new)
+            (D.tells self.old.sock × C.tells self.old.clock × J.tells journal.old)
             (DatagramsRan (serving (W.answer self.old.service) (W.hint self.old.service)) result
-            (world (J.noted journal.old) (D.sock_traffic self.old.sock) (D.failed_sends self.old.sock) (C.readings self.old.clock) self.old.known)
-            (world (J.noted journal.new) (D.sock_traffic self.new.sock) (D.failed_sends self.new.sock) (C.readings self.new.clock) self.new.known)) }
+            (world (J.noted journal.old) (D.sock_traffic self.old.sock) (D.failed_sends self.old.sock)
+            (C.readings self.old.clock) self.old.known)
+            (world (J.noted journal.new) (D.sock_traffic self.new.sock) (D.failed_sends self.new.sock)
+            (C.readings self.new.clock) self.new.known)) }
         // Always.
         ensures seat { InSlot (LooksBy result) (result ≡ DgramEnd.Shutdown) self.old.known self.new.known }
         ensures same { (self.new.book ≡ self.old.book) × (self.new.service ≡ self.old.service) }
@@ -182,7 +197,8 @@ fn serve_from<R: Wait, D: AsyncDgramSock, C: Clock, J: Recorder, W: SharedServic
 ) -> DgramEnd
     requires place { IsSeatAt book.now place.old }
     requires can_call { W.can_call service.now }
-    ensures observed { Observed (D.tells sock.new × C.tells clock.new × J.tells journal.new) (D.tells sock.old × C.tells clock.old × J.tells journal.old)
+    ensures observed { Observed (D.tells sock.new × C.tells clock.new × J.tells journal.new)
+        (D.tells sock.old × C.tells clock.old × J.tells journal.old)
         (DatagramsRan (serving (W.answer service.now) (W.hint service.now)) result
         (world (J.noted journal.old) (D.sock_traffic sock.old) (D.failed_sends sock.old) (C.readings clock.old) (known_of place.old))
         (world (J.noted journal.new) (D.sock_traffic sock.new) (D.failed_sends sock.new) (C.readings clock.new) (known_of place.new))) }
@@ -223,7 +239,8 @@ fn serve_in_slot<R: Wait, D: AsyncDgramSock, C: Clock, J: Recorder, W: SharedSer
 ) -> (BookSeat, DgramEnd)
     requires book { seat.book ≡ book.now }
     requires can_call { W.can_call service.now }
-    ensures observed { Observed (D.tells sock.new × C.tells clock.new × J.tells journal.new) (D.tells sock.old × C.tells clock.old × J.tells journal.old)
+    ensures observed { Observed (D.tells sock.new × C.tells clock.new × J.tells journal.new)
+        (D.tells sock.old × C.tells clock.old × J.tells journal.old)
         (DatagramsRan (serving (W.answer service.now) (W.hint service.now)) result.1
         (world (J.noted journal.old) (D.sock_traffic sock.old) (D.failed_sends sock.old) (C.readings clock.old) seat.known)
         (world (J.noted journal.new) (D.sock_traffic sock.new) (D.failed_sends sock.new) (C.readings clock.new) result.0.known)) }

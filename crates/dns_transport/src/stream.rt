@@ -71,7 +71,14 @@ impl<A, B, W, C, P, H> Model for StreamServer<A, B, W, C, P, H> {
 
     ghost Value = { StreamParts A W C P };
 
-    ghost view = { λ s. record { accept = s.accept; service = arc_value s.conn_context.service; clock = s.conn_context.clock; spawner = s.spawner; book = arc_value s.conn_context.book; known = known_of s.seat } };
+    ghost view = { λ s. record {
+      accept = s.accept;
+      service = arc_value s.conn_context.service;
+      clock = s.conn_context.clock;
+      spawner = s.spawner;
+      book = arc_value s.conn_context.book;
+      known = known_of s.seat;
+    } };
 
     ghost invariant = { λ s. IsSeatAt (arc_value s.conn_context.book) s.seat × (arc_value s.metrics ≡ true) };
 }
@@ -92,7 +99,8 @@ impl<
         clock: C,
         spawner: P,
     ) -> Result<Self, OutOfMemory>
-        ensures parts { IfOk result (λ s. (s.accept ≡ accept) × (s.service ≡ arc_value service) × (s.clock ≡ clock) × (s.spawner ≡ spawner)) }
+        ensures parts { IfOk result (λ s. (s.accept ≡ accept) × (s.service ≡ arc_value service) × (s.clock ≡ clock)
+            × (s.spawner ≡ spawner)) }
         ensures known { IfOk result (λ s. s.known ≡ new_known (new_state default_dgram default_stream)) }
     {
         StreamServer::with_config(
@@ -116,7 +124,8 @@ impl<
         spawner: P,
         config: StreamConfig,
     ) -> Result<Self, OutOfMemory>
-        ensures parts { IfOk result (λ s. (s.accept ≡ accept) × (s.service ≡ arc_value service) × (s.clock ≡ clock) × (s.spawner ≡ spawner)) }
+        ensures parts { IfOk result (λ s. (s.accept ≡ accept) × (s.service ≡ arc_value service) × (s.clock ≡ clock)
+            × (s.spawner ≡ spawner)) }
         ensures known { IfOk result (λ s. s.known ≡ new_known (new_state default_dgram config)) }
     {
         match ServerParts::of_connections(alloc, config) {
@@ -143,7 +152,14 @@ impl<
     ) -> Self
         requires seat { server_parts.seat.book ≡ arc_value server_parts.book }
         requires metrics { arc_value server_parts.metrics ≡ true }
-        ensures { result ≡ record { accept = accept; service = arc_value service; clock = clock; spawner = spawner; book = arc_value server_parts.book; known = server_parts.seat.known } }
+        ensures { result ≡ record {
+          accept = accept;
+          service = arc_value service;
+          clock = clock;
+          spawner = spawner;
+          book = arc_value server_parts.book;
+          known = server_parts.seat.known;
+        } }
     {
         let ServerParts {
             book,
@@ -246,8 +262,10 @@ where
         alloc: Global,
     ) -> StreamEnd
         requires { W.can_call self.old.service }
-        ensures observed { ConnectionsRan result (A.tells self.new.accept × P.tells self.new.spawner) (A.tells self.old.accept × P.tells self.old.spawner)
-            self.old.known self.new.known (A.accept_traffic self.old.accept) (A.accept_traffic self.new.accept) (P.given self.old.spawner) (P.given self.new.spawner)
+        ensures observed { ConnectionsRan result (A.tells self.new.accept × P.tells self.new.spawner)
+            (A.tells self.old.accept × P.tells self.old.spawner)
+            self.old.known self.new.known (A.accept_traffic self.old.accept) (A.accept_traffic self.new.accept)
+            (P.given self.old.spawner) (P.given self.new.spawner)
             (A.faults self.old.accept) (A.faults self.new.accept) }
         ensures same { (self.new.book ≡ self.old.book) × (self.new.service ≡ self.old.service) × (self.new.clock ≡ self.old.clock) }
         ensures accepts_later { A.faults self.old.accept ≤ A.faults self.new.accept }

@@ -28,7 +28,16 @@ other_octets BadTrunc time = []
 
 -- where the key isn't known or the MAC is wrong: the names of the request, and no MAC
 abbrev pub unsigned_by : Stamp → Tsig → List ℕ → List ℕ → Tsig
-unsigned_by s t reply other = record { key = t.key; algorithm = t.algorithm; time = s.time; fudge = s.fudge; mac = []; original_id = field 0 reply; error = s.error; other = other }
+unsigned_by s t reply other = record {
+  key = t.key;
+  algorithm = t.algorithm;
+  time = s.time;
+  fudge = s.fudge;
+  mac = [];
+  original_id = field 0 reply;
+  error = s.error;
+  other = other;
+}
 
 abbrev pub unsigned_refusal : TsigError → ℕ → ℕ → Tsig → List ℕ → Tsig
 unsigned_refusal e now fudge t reply = unsigned_by (refusal_stamp e now fudge t) t reply (other_octets e (six now))

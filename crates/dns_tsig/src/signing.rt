@@ -81,7 +81,8 @@ pub(crate) fn code_of(key: &Key, prior: &[u8], stamp: &Stamp, other: &[u8], mess
     requires time { stamp.now.time < 2 ^ 48 }
     requires prior { length prior.now < 2 ^ 16 }
     requires other { length other.now ≤ 6 }
-    ensures { (mac : List ℕ) → octets_of result ≡ mac_of key.now (digested prior.now message.now (tsig_by key.now stamp.now message.now other.now mac)) }
+    ensures { (mac : List ℕ) → octets_of result
+        ≡ mac_of key.now (digested prior.now message.now (tsig_by key.now stamp.now message.now other.now mac)) }
 {
     let mut code = key.begin(prior);
     code.update(&two_octets(number_at(message, 0)));
@@ -151,7 +152,14 @@ pub(crate) fn record_with(
     requires time { stamp.now.time < 2 ^ 48 }
     requires mac { length mac.now ≤ 64 }
     requires other { length other.now ≤ 6 }
-    ensures value { IfOk result (λ r. record_of r ≡ record { owner = owner; rtype = 250; class = 255; ttl = 0; rdata = algorithm.now ++ data_behind stamp.now id mac.now other.now }) }
+    ensures value { IfOk result (λ r. record_of r
+        ≡ record {
+          owner = owner;
+          rtype = 250;
+          class = 255;
+          ttl = 0;
+          rdata = algorithm.now ++ data_behind stamp.now id mac.now other.now;
+        }) }
     ensures lawful { IfOk result (λ r. IsLawful r.rdata) }
 {
     let mut octets = Vec::new(alloc);
@@ -181,7 +189,8 @@ fn append(
     requires room { field 10 message.old.items < 65535 }
     requires time { stamp.now.time < 2 ^ 48 }
     requires other { length other.now ≤ 6 }
-    ensures ok { OnOk result (message.new.items ≡ with_tsig message.old.items (tsig_by key.now stamp.now message.old.items other.now (octets_of mac.now))) }
+    ensures ok { OnOk result (message.new.items
+        ≡ with_tsig message.old.items (tsig_by key.now stamp.now message.old.items other.now (octets_of mac.now))) }
     ensures err { OnErr result (message.new.items ≡ message.old.items) }
 {
     let size = message.len();
@@ -208,7 +217,8 @@ fn push_tsig(
     requires header { 12 ≤ length target.old.items }
     requires time { stamp.now.time < 2 ^ 48 }
     requires other { length other.now ≤ 6 }
-    ensures ok { OnOk result (target.new.items ≡ target.old.items ++ record_octets (tsig_record (tsig_by key.now stamp.now target.old.items other.now (octets_of mac.now)))) }
+    ensures ok { OnOk result (target.new.items
+        ≡ target.old.items ++ record_octets (tsig_record (tsig_by key.now stamp.now target.old.items other.now (octets_of mac.now)))) }
     ensures err { OnErr result (take (length target.old.items) target.new.items ≡ target.old.items) }
 {
     let id = number_at(target, 0);
@@ -222,7 +232,8 @@ fn push_tsig(
 
 /// Appends a record's octets up to its data, or some of them: the owner, type TSIG, class ANY, TTL 0 and the size.
 fn push_owner(alloc: Global, key: &Key, size: u16, target: &mut Vec<u8>) -> Result<(), OutOfMemory>
-    ensures ok { OnOk result (target.new.items ≡ target.old.items ++ (spell key.now.name ++ (two 250 ++ (two 255 ++ (four 0 ++ two size))))) }
+    ensures ok { OnOk result (target.new.items
+        ≡ target.old.items ++ (spell key.now.name ++ (two 250 ++ (two 255 ++ (four 0 ++ two size))))) }
     ensures err { OnErr result (take (length target.old.items) target.new.items ≡ target.old.items) }
 {
     key.name().compose(alloc, target)?;

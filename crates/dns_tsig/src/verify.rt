@@ -21,7 +21,8 @@ impl<'a> Signed<'a> {
     pub fn verify(&self, key: &Key, least: usize, now: u64, prior: &[u8]) -> Result<(), TsigError>
         requires time { now < 2 ^ 48 }
         requires prior { length prior.now < 2 ^ 16 }
-        ensures { MatchResult result (λ _. message_refusal key.now least now prior.now self.now ≡ None) (λ e. message_refusal key.now least now prior.now self.now ≡ Some e) }
+        ensures { MatchResult result (λ _. message_refusal key.now least now prior.now self.now ≡ None)
+            (λ e. message_refusal key.now least now prior.now self.now ≡ Some e) }
     {
         if !key.is_named(self.tsig()) {
             return Err(TsigError::BadKey);
@@ -52,7 +53,9 @@ pub(crate) fn judge(
     tsig: &TsigRef<'_>,
 ) -> Result<(), TsigError>
     requires { now < 2 ^ 48 }
-    ensures { (text : List ℕ) → Keyed key.now.algorithm key.now.secret text code → MatchResult result (λ _. refusal_behind key.now least now text tsig.now ≡ None) (λ e. refusal_behind key.now least now text tsig.now ≡ Some e) }
+    ensures { (text : List ℕ) → Keyed key.now.algorithm key.now.secret text code
+        → MatchResult result (λ _. refusal_behind key.now least now text tsig.now ≡ None)
+        (λ e. refusal_behind key.now least now text tsig.now ≡ Some e) }
 {
     if !is_size(key.algorithm(), tsig.mac().len()) {
         return Err(TsigError::FormErr);

@@ -25,7 +25,8 @@ value_at w at = base32_value (slice_index w at)
 -- the group that begins at a place
 unfoldable pub base32_group : List ℕ → ℕ → List ℕ
 base32_group w at =
-    five_octets (value_at w at) (value_at w (at + 1)) (value_at w (at + 2)) (value_at w (at + 3)) (value_at w (at + 4)) (value_at w (at + 5)) (value_at w (at + 6)) (value_at w (at + 7))
+    five_octets (value_at w at) (value_at w (at + 1)) (value_at w (at + 2)) (value_at w (at + 3)) (value_at w (at + 4))
+    (value_at w (at + 5)) (value_at w (at + 6)) (value_at w (at + 7))
 
 -- so many groups
 abbrev pub base32_groups : List ℕ → ℕ → List ℕ

@@ -39,7 +39,8 @@ leap_day year month = if nat_lt 2 month && is_leap year then 1 else 0
 
 -- the days from 1970, whose first is day 0; up to 1969 there were 477 leap years
 abbrev pub days_since_1970 : ℕ → ℕ → ℕ → ℕ
-days_since_1970 year month day = (365 * (year - 1970) + (leap_years (year - 1) - 477)) + ((days_before month + leap_day year month) + (day - 1))
+days_since_1970 year month day = (365 * (year - 1970) + (leap_years (year - 1) - 477))
+    + ((days_before month + leap_day year month) + (day - 1))
 
 abbrev pub is_date : ℕ → ℕ → ℕ → Bool
 is_date year month day = nat_le 1970 year && ((nat_le 1 month && nat_le month 12) && (nat_le 1 day && nat_le day (month_days year month)))
@@ -49,11 +50,13 @@ date_days year month day = if is_date year month day then Some (days_since_1970 
 
 -- YYYYMMDD
 unfoldable pub date_of : List ℕ → Option ℕ
-date_of w = number_below 10000 (take 4 w) >>? λ year. number_below 100 (take 2 (drop 4 w)) >>? λ month. number_below 100 (drop 6 w) >>? λ day. date_days year month day
+date_of w = number_below 10000 (take 4 w) >>? λ year. number_below 100 (take 2 (drop 4 w)) >>? λ month.
+    number_below 100 (drop 6 w) >>? λ day. date_days year month day
 
 -- HHmmSS
 unfoldable pub time_of : List ℕ → Option ℕ
-time_of w = number_below 24 (take 2 w) >>? λ hour. number_below 60 (take 2 (drop 2 w)) >>? λ minute. number_below 60 (drop 4 w) >>? λ second. Some (3600 * hour + (60 * minute + second))
+time_of w = number_below 24 (take 2 w) >>? λ hour. number_below 60 (take 2 (drop 2 w)) >>? λ minute.
+    number_below 60 (drop 4 w) >>? λ second. Some (3600 * hour + (60 * minute + second))
 
 -- seconds of 32 bits, which wrap (RFC 1982)
 unfoldable pub date_and_time : List ℕ → Option ℕ

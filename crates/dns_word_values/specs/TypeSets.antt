@@ -8,7 +8,8 @@ type_bit types t = if list_any (λ u. nat_eq u t) types then 1 else 0
 -- eight types from this one on, of which the first is the highest bit
 abbrev pub eight_bits : List ℕ → ℕ → ℕ
 eight_bits types t =
-    128 * type_bit types t + 64 * type_bit types (t + 1) + 32 * type_bit types (t + 2) + 16 * type_bit types (t + 3) + 8 * type_bit types (t + 4) + 4 * type_bit types (t + 5) + 2 * type_bit types (t + 6) + type_bit types (t + 7)
+    128 * type_bit types t + 64 * type_bit types (t + 1) + 32 * type_bit types (t + 2) + 16 * type_bit types (t + 3) + 8
+    * type_bit types (t + 4) + 4 * type_bit types (t + 5) + 2 * type_bit types (t + 6) + type_bit types (t + 7)
 
 -- so many octets, from this type on
 abbrev pub bits_from : List ℕ → ℕ → ℕ → List ℕ

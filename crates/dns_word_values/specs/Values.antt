@@ -76,7 +76,8 @@ abbrev pub unescape : Escape → List ℕ → ℕ → Option (Escape × List ℕ
 unescape Clear octets c = if nat_eq c 92 then Some (Backslash, octets) else Some (Clear, octets ++ c ∷ [])
 unescape Backslash octets c = if is_ascii_digit c then Some (Hundreds (c - 48), octets) else Some (Clear, octets ++ c ∷ [])
 unescape (Hundreds n) octets c = if is_ascii_digit c then Some (Tens (10 * n + (c - 48)), octets) else None
-unescape (Tens n) octets c = if is_ascii_digit c && nat_lt (10 * n + (c - 48)) 256 then Some (Clear, octets ++ (10 * n + (c - 48)) ∷ []) else None
+unescape (Tens n) octets c = if is_ascii_digit c && nat_lt (10 * n + (c - 48)) 256
+    then Some (Clear, octets ++ (10 * n + (c - 48)) ∷ []) else None
 
 abbrev pub unescaped_end : Escape → List ℕ → Option (List ℕ)
 unescaped_end Clear octets = Some octets

@@ -33,5 +33,6 @@ module _ {D C J : Type 0} (failed_receives failed_sends : D → ℕ) where
   -- where it is done.
   pub record RoseBy {A P : Type 0} (failed : A → ℕ) (refused : P → ℕ) (end : HostEnd) (h h' : WorkersHost A D C P J) : Type 0 where
     pub caused : CausedBy end
-        ((Rose (failed h.accept) (failed h'.accept) ⊎ Rose (refused h.spawner) (refused h'.spawner)) ⊎ SomeWorkerRose h.workers.items h'.workers.items)
+        ((Rose (failed h.accept) (failed h'.accept) ⊎ Rose (refused h.spawner) (refused h'.spawner))
+        ⊎ SomeWorkerRose h.workers.items h'.workers.items)
         (((failed h'.accept ≡ failed h.accept) × (refused h'.spawner ≡ refused h.spawner)) × NoWorkerRose h.workers.items h'.workers.items)

@@ -101,27 +101,33 @@ module _ {D C J : Type 0} where
   abbrev pub outcome_of : Worker D C J → Outcome
   outcome_of w = record { end = w.end; send_failed = w.send_failed; known = known_in w.seat }
 
-  module _ (tells : D → Type 0) (sock_traffic : D → SockTraffic) (failed_receives failed_sends : D → ℕ) (ticks : C → Type 0) (readings : C → List ClockReading)
+  module _ (tells : D → Type 0) (sock_traffic : D → SockTraffic) (failed_receives failed_sends : D → ℕ) (ticks : C → Type 0)
+      (readings : C → List ClockReading)
       (notes : J → Type 0) (noted : J → List Event) (answers : Serving) (count : ℕ) where
     -- what a worker did to its seat, its socket, its clock and its journal, by how it ended
     abbrev pub WorkerWent : Known → Outcome → Worker D C J → Worker D C J → Type 0
-    WorkerWent k o w w' = DgramsWent tells sock_traffic failed_receives failed_sends ticks readings notes noted answers o.end o.send_failed count k o.known
+    WorkerWent k o w w' = DgramsWent tells sock_traffic failed_receives failed_sends ticks readings notes noted answers o.end
+        o.send_failed count k o.known
         w.sock w'.sock w.clock w'.clock w.journal w'.journal
 
     -- the worker served from its seat, which it has again
     abbrev pub WorkerServed : Worker D C J → Worker D C J → Type 0
-    WorkerServed w w' = MatchOption w.seat ⊥ (λ s. MatchOption w'.seat ⊥ (λ s'. WorkerWent s.known (record { end = w'.end; send_failed = w'.send_failed; known = s'.known }) w w'))
+    WorkerServed w w' = MatchOption w.seat ⊥
+        (λ s. MatchOption w'.seat ⊥ (λ s'. WorkerWent s.known
+        (record { end = w'.end; send_failed = w'.send_failed; known = s'.known }) w w'))
 
     abbrev pub AllServed : List (Worker D C J) → List (Worker D C J) → Type 0
     AllServed ws ws' = (i : ℕ) (w : Worker D C J) → i < length ws → WorkerServed (slice_index_or ws i w) (slice_index_or ws' i w)
 
     -- Each of the workers served so, from a seat of its own.
     abbrev pub AllWent : Known → List Outcome → List (Worker D C J) → List (Worker D C J) → Type 0
-    AllWent k os ws ws' = (i : ℕ) (o : Outcome) (w : Worker D C J) → i < length ws → WorkerWent (worker_seat i k) (slice_index_or os i o) (slice_index_or ws i w) (slice_index_or ws' i w)
+    AllWent k os ws ws' = (i : ℕ) (o : Outcome) (w : Worker D C J) → i < length ws
+        → WorkerWent (worker_seat i k) (slice_index_or os i o) (slice_index_or ws i w) (slice_index_or ws' i w)
 
     -- How a host's connections were accepted, from the seat that was left, and its workers served datagrams. Then the seats were
     -- joined to one, and the book was shut down.
-    pub record WorkersServed {A P : Type 0} (accept_tells : A → Type 0) (accept_traffic : A → AcceptTraffic) (failed : A → ℕ) (works : P → Type 0) (given : P → List SocketAddr) (refused : P → ℕ)
+    pub record WorkersServed {A P : Type 0} (accept_tells : A → Type 0) (accept_traffic : A → AcceptTraffic) (failed : A → ℕ)
+        (works : P → Type 0) (given : P → List SocketAddr) (refused : P → ℕ)
         (end : HostEnd) (k k' : Known) (h h' : WorkersHost A D C P J) : Type 0 where
       pub accepts_end : AcceptEnd
       pub risen : Bool
@@ -130,7 +136,8 @@ module _ {D C J : Type 0} where
       pub joined : Known
       pub workers : length h'.workers.items ≡ length h.workers.items
       pub as_many : length outcomes ≡ length h.workers.items
-      pub accepts : AcceptsWent accept_tells accept_traffic failed works given refused accepts_end risen count (left_after (length h.workers.items) k) first h.accept h'.accept h.spawner h'.spawner
+      pub accepts : AcceptsWent accept_tells accept_traffic failed works given refused accepts_end risen count
+          (left_after (length h.workers.items) k) first h.accept h'.accept h.spawner h'.spawner
       pub dgrams : AllWent k outcomes h.workers.items h'.workers.items
       pub join : JoinedAll first outcomes joined
       pub shut : ShutDown joined k'

@@ -20,6 +20,7 @@ pub record AreAliases (z : ZoneState) (name : List (List ℕ)) (is : List ℕ) :
 -- what an alias with a target leads to, where a type is asked for, however many CNAMEs may still be given: further aliases,
 -- records, or nothing
 abbrev pub TargetLeadsTo : ZoneState → ℕ → Option (List (List ℕ)) → Lead → Type 0
-TargetLeadsTo z t target (Alias next) = (name : List (List ℕ)) × AreAliases z name next.now × ((k : ℕ) → gone_on z (followed z t k) target ≡ followed z t k name)
+TargetLeadsTo z t target (Alias next) = (name : List (List ℕ)) × AreAliases z name next.now
+    × ((k : ℕ) → gone_on z (followed z t k) target ≡ followed z t k name)
 TargetLeadsTo z t target (Found is) = (k : ℕ) → gone_on z (followed z t k) target ≡ at_places z.records is.now
 TargetLeadsTo z t target Nowhere = (k : ℕ) → gone_on z (followed z t k) target ≡ []

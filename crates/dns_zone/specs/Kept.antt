@@ -40,7 +40,8 @@ begins_at o r = starts_with ◌==◌ (name_path r.owner) o
 
 -- a place more is kept, of a type under octets
 pub record Puts (old : NamePlaces) (o : List ℕ) (rtype place : ℕ) (new : NamePlaces) : Type 0 where
-  pub kept : (p : List ℕ) (t : ℕ) → places_under new p t ≡ (if bytes_eq p o && (nat_eq t 255 || nat_eq rtype t) then places_under old p t ++ place ∷ [] else places_under old p t)
+  pub kept : (p : List ℕ) (t : ℕ) → places_under new p t
+      ≡ (if bytes_eq p o && (nat_eq t 255 || nat_eq rtype t) then places_under old p t ++ place ∷ [] else places_under old p t)
   pub alone : (p : List ℕ) → is_some (kinds_under new p) ≡ (bytes_eq p o || is_some (kinds_under old p))
 
 -- the places of all records are kept, and nothing under other octets

@@ -38,7 +38,13 @@ negative_soa r = record r { ttl = negative_ttl r.ttl r.rdata }
 
 -- that there are no such records, or with code 3 that there is no such name (RFC 2308, section 2)
 abbrev pub denied : ZoneState → ℕ → ZoneReply
-denied z rcode = record { aa = true; rcode = rcode; answers = []; authority = map negative_soa (filter (is_of 6) z.records); additional = [] }
+denied z rcode = record {
+  aa = true;
+  rcode = rcode;
+  answers = [];
+  authority = map negative_soa (filter (is_of 6) z.records);
+  additional = [];
+}
 
 -- whether an alias is followed for a type: not for CNAME itself, nor where any records are asked for
 abbrev pub follows : ℕ → Bool

@@ -67,7 +67,8 @@ impl Zone {
     /// What the path of a name within the zone leads to.
     fn lead_within(&self, rtype: u16, path: &[u8]) -> Lead<'_>
         requires { IsSought self.now.apex path.now }
-        ensures { (name : List (List ℕ)) → path.now ≡ name_path name → IsTrue (ends_name name self.now.apex) → TargetLeadsTo self.now rtype (Some name) result }
+        ensures { (name : List (List ℕ)) → path.now ≡ name_path name → IsTrue (ends_name name self.now.apex)
+            → TargetLeadsTo self.now rtype (Some name) result }
     {
         match self.cut(path) {
             Some(_) => Lead::Nowhere,
@@ -77,7 +78,8 @@ impl Zone {
 
     /// What the path of a name that isn't at or below a cut leads to.
     fn lead_on(&self, rtype: u16, path: &[u8]) -> Lead<'_>
-        ensures { (name : List (List ℕ)) → path.now ≡ name_path name → IsTrue (ends_name name self.now.apex) → is_cut_off self.now name ≡ false → TargetLeadsTo self.now rtype (Some name) result }
+        ensures { (name : List (List ℕ)) → path.now ≡ name_path name → IsTrue (ends_name name self.now.apex)
+            → is_cut_off self.now name ≡ false → TargetLeadsTo self.now rtype (Some name) result }
     {
         if let Some(next) = self.owned(path, Rtype::CNAME.to_int()) {
             return Lead::Alias(next);
@@ -117,7 +119,8 @@ impl Zone {
         place: usize,
         trail: &mut Vec<usize>,
     ) -> Result<Lead<'_>, OutOfMemory>
-        ensures { IfOk result (λ l. (trail.new.items ≡ trail.old.items ++ place ∷ []) × TargetLeadsTo self.now rtype (target_of (slice_get self.now.records place)) l) }
+        ensures { IfOk result (λ l. (trail.new.items ≡ trail.old.items ++ place ∷ [])
+            × TargetLeadsTo self.now rtype (target_of (slice_get self.now.records place)) l) }
     {
         trail.push(place)?;
         self.lead(alloc, rtype, place)
@@ -131,7 +134,8 @@ impl Zone {
         rtype: u16,
         first: &'a [usize],
     ) -> Result<Vec<usize>, OutOfMemory>
-        ensures { (name : List (List ℕ)) → AreAliases self.now name first.now → IfOk result (λ v. at_places self.now.records v.items ≡ followed self.now rtype 8 name) }
+        ensures { (name : List (List ℕ)) → AreAliases self.now name first.now
+            → IfOk result (λ v. at_places self.now.records v.items ≡ followed self.now rtype 8 name) }
     {
         let mut trail = Vec::new(alloc);
         let mut next = first;

@@ -147,7 +147,8 @@ pub(crate) fn checked(
     apex: &Name,
     records: &[Record],
 ) -> Result<NamePlaces, ZoneError>
-    ensures { MatchResult result (λ n. (zone_error apex.now records.now ≡ None) × KnowsPlaces n records.now × AllByRecursion HasNamedData records.now) (λ e. (z : ZoneState) → Makes (zone_error apex.now records.now) z (Err e)) }
+    ensures { MatchResult result (λ n. (zone_error apex.now records.now ≡ None) × KnowsPlaces n records.now
+        × AllByRecursion HasNamedData records.now) (λ e. (z : ZoneState) → Makes (zone_error apex.now records.now) z (Err e)) }
 {
     check_list(apex, records)?;
     let names = names_of(alloc, records)?;

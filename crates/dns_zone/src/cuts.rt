@@ -16,7 +16,8 @@ use dns_base::Rtype;
 
 /// The places of a type among those of a name, where there are any.
 pub(crate) fn places_in(kinds: Option<&Kinds>, rtype: u16) -> Option<&[usize]>
-    ensures { MatchOption result (places_in rtype (option_copied kinds.entry) ≡ []) (λ s. (s.now ≡ places_in rtype (option_copied kinds.entry)) × (0 < length s.now)) }
+    ensures { MatchOption result (places_in rtype (option_copied kinds.entry) ≡ [])
+        (λ s. (s.now ≡ places_in rtype (option_copied kinds.entry)) × (0 < length s.now)) }
 {
     match kinds {
         Some(kinds) => find_kind(kinds, rtype),
@@ -29,7 +30,9 @@ impl Zone {
     /// looked up from the shortest on.
     pub(crate) fn cut(&self, path: &[u8]) -> Option<&[usize]>
         requires { IsSought self.now.apex path.now }
-        ensures { (name : List (List ℕ)) → path.now ≡ name_path name → MatchOption result (is_cut_off self.now name ≡ false) (λ s. (is_cut_off self.now name ≡ true) × (at_places self.now.records s.now ≡ cut_records self.now name)) }
+        ensures { (name : List (List ℕ)) → path.now ≡ name_path name
+            → MatchOption result (is_cut_off self.now name ≡ false)
+            (λ s. (is_cut_off self.now name ≡ true) × (at_places self.now.records s.now ≡ cut_records self.now name)) }
     {
         let mut end = self.apex.as_slice().len() - 1;
         'labels: while end < path.len() {
@@ -43,14 +46,17 @@ impl Zone {
 
     /// The places of the records of a type that the name of a path owns, where there are any.
     pub(crate) fn owned(&self, path: &[u8], rtype: u16) -> Option<&[usize]>
-        ensures { (name : List (List ℕ)) → path.now ≡ name_path name → MatchOption result (list_any (is_asked name rtype) self.now.records ≡ false) (λ s. (list_any (is_asked name rtype) self.now.records ≡ true) × (s.now ≡ places (is_asked name rtype) self.now.records)) }
+        ensures { (name : List (List ℕ)) → path.now ≡ name_path name
+            → MatchOption result (list_any (is_asked name rtype) self.now.records ≡ false)
+            (λ s. (list_any (is_asked name rtype) self.now.records ≡ true) × (s.now ≡ places (is_asked name rtype) self.now.records)) }
     {
         self.names.find(path, rtype)
     }
 
     /// The places of the records that the name of a path owns, by their types.
     pub(crate) fn kinds_of(&self, path: &[u8]) -> Option<&Kinds>
-        ensures { (name : List (List ℕ)) → path.now ≡ name_path name → (t : ℕ) → places_in t (option_copied result) ≡ places (is_asked name t) self.now.records }
+        ensures { (name : List (List ℕ)) → path.now ≡ name_path name → (t : ℕ)
+            → places_in t (option_copied result) ≡ places (is_asked name t) self.now.records }
     {
         self.names.kinds_at(path)
     }

@@ -46,7 +46,9 @@ impl Zone {
         rtype: u16,
         addresses: &mut BTreeSet<usize>,
     ) -> Result<(), OutOfMemory>
-        ensures { OnOk result ((name : List (List ℕ)) → path.now ≡ name_path name → (i : ℕ) → contains nat_cmp addresses.new i ≡ (contains nat_cmp addresses.old i || passes (is_asked name rtype) (slice_get self.now.records i))) }
+        ensures { OnOk result ((name : List (List ℕ)) → path.now ≡ name_path name → (i : ℕ)
+            → contains nat_cmp addresses.new i ≡ (contains nat_cmp addresses.old i
+            || passes (is_asked name rtype) (slice_get self.now.records i))) }
     {
         match self.owned(path, rtype) {
             Some(places) => add_all(addresses, places),
@@ -61,7 +63,8 @@ impl Zone {
         host: &Name,
         addresses: &mut BTreeSet<usize>,
     ) -> Result<(), OutOfMemory>
-        ensures { OnOk result ((i : ℕ) → contains nat_cmp addresses.new i ≡ (contains nat_cmp addresses.old i || passes (is_address_of host.now) (slice_get self.now.records i))) }
+        ensures { OnOk result ((i : ℕ) → contains nat_cmp addresses.new i
+            ≡ (contains nat_cmp addresses.old i || passes (is_address_of host.now) (slice_get self.now.records i))) }
     {
         let path = path_of_name(alloc, host)?;
         self.add_owned(path.as_slice(), Rtype::A.to_int(), addresses)?;
@@ -75,7 +78,9 @@ impl Zone {
         place: usize,
         addresses: &mut BTreeSet<usize>,
     ) -> Result<(), OutOfMemory>
-        ensures { OnOk result ((i : ℕ) → contains nat_cmp addresses.new i ≡ (contains nat_cmp addresses.old i || passes (is_glue (at_places self.now.records (place ∷ []))) (slice_get self.now.records i))) }
+        ensures { OnOk result ((i : ℕ) → contains nat_cmp addresses.new i
+            ≡ (contains nat_cmp addresses.old i || passes (is_glue (at_places self.now.records (place ∷ [])))
+            (slice_get self.now.records i))) }
     {
         match self.target(place) {
             Some(host) => self.add_host(alloc, host, addresses),
@@ -85,7 +90,8 @@ impl Zone {
 
     /// The places of the addresses of the hosts that the records at places name, as a set.
     fn addresses(&self, alloc: Global, servers: &[usize]) -> Result<BTreeSet<usize>, OutOfMemory>
-        ensures { IfOk result (λ s. (i : ℕ) → contains nat_cmp s i ≡ passes (is_glue (at_places self.now.records servers.now)) (slice_get self.now.records i)) }
+        ensures { IfOk result (λ s. (i : ℕ) → contains nat_cmp s i
+            ≡ passes (is_glue (at_places self.now.records servers.now)) (slice_get self.now.records i)) }
     {
         let mut addresses = BTreeSet::new(alloc);
         'each: for place in servers {

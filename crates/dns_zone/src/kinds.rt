@@ -18,7 +18,8 @@ pub(crate) const ANY: u16 = 255;
 /// Keeps a place behind those of a type.
 fn put_behind(kinds: &mut Kinds, rtype: u16, place: usize) -> Result<(), OutOfMemory>
     requires { IsSome (get nat_cmp kinds.old rtype) }
-    ensures { OnOk result ((t : ℕ) → kind_places t kinds.new ≡ (if nat_eq rtype t then kind_places t kinds.old ++ place ∷ [] else kind_places t kinds.old)) }
+    ensures { OnOk result ((t : ℕ) → kind_places t kinds.new
+        ≡ (if nat_eq rtype t then kind_places t kinds.old ++ place ∷ [] else kind_places t kinds.old)) }
 {
     match kinds.get_mut(&rtype) {
         Some(places) => {
@@ -32,7 +33,8 @@ fn put_behind(kinds: &mut Kinds, rtype: u16, place: usize) -> Result<(), OutOfMe
 /// Keeps the first place of a type.
 fn put_first(kinds: &mut Kinds, alloc: Global, rtype: u16, place: usize) -> Result<(), OutOfMemory>
     requires { get nat_cmp kinds.old rtype ≡ None }
-    ensures { OnOk result ((t : ℕ) → kind_places t kinds.new ≡ (if nat_eq rtype t then kind_places t kinds.old ++ place ∷ [] else kind_places t kinds.old)) }
+    ensures { OnOk result ((t : ℕ) → kind_places t kinds.new
+        ≡ (if nat_eq rtype t then kind_places t kinds.old ++ place ∷ [] else kind_places t kinds.old)) }
 {
     let mut places = Vec::new(alloc);
     places.push(place)?;
@@ -42,7 +44,8 @@ fn put_first(kinds: &mut Kinds, alloc: Global, rtype: u16, place: usize) -> Resu
 
 /// Keeps a place under a number.
 fn put(kinds: &mut Kinds, alloc: Global, rtype: u16, place: usize) -> Result<(), OutOfMemory>
-    ensures { OnOk result ((t : ℕ) → kind_places t kinds.new ≡ (if nat_eq rtype t then kind_places t kinds.old ++ place ∷ [] else kind_places t kinds.old)) }
+    ensures { OnOk result ((t : ℕ) → kind_places t kinds.new
+        ≡ (if nat_eq rtype t then kind_places t kinds.old ++ place ∷ [] else kind_places t kinds.old)) }
 {
     if kinds.contains_key(&rtype) {
         put_behind(kinds, rtype, place)
@@ -58,7 +61,8 @@ pub(crate) fn put_kind(
     rtype: u16,
     place: usize,
 ) -> Result<(), OutOfMemory>
-    ensures { OnOk result ((t : ℕ) → kind_places t kinds.new ≡ (if nat_eq t 255 || nat_eq rtype t then kind_places t kinds.old ++ place ∷ [] else kind_places t kinds.old)) }
+    ensures { OnOk result ((t : ℕ) → kind_places t kinds.new
+        ≡ (if nat_eq t 255 || nat_eq rtype t then kind_places t kinds.old ++ place ∷ [] else kind_places t kinds.old)) }
 {
     put(kinds, alloc, ANY, place)?;
     if rtype == ANY {

@@ -16,12 +16,15 @@ use dns_route::typed_replies_are_built;
 /// A name is said not to exist exactly where it is at or below no cut, and neither it nor a name below it owns a record
 /// (RFC 8020, section 2).
 pub fn missing_names_are_denied()
-    ensures { (z : ZoneState) (q : Question) → ((zone_reply z q).rcode ≡ 3) ↔ ((is_cut_off z q.qname ≡ false) × (exists z q.qname ≡ false)) }
+    ensures { (z : ZoneState) (q : Question)
+        → ((zone_reply z q).rcode ≡ 3) ↔ ((is_cut_off z q.qname ≡ false) × (exists z q.qname ≡ false)) }
 {}
 
 /// What is built of a zone's reply is the message of that reply, section for section.
 pub fn zone_replies_are_built()
-    ensures { (z : ZoneState) (o : List ℕ) (q : Question) → AllByRecursion HasTypedData z.records → IsMessage (zone_message o (zone_reply z q)) → reply_message (kept_whole (zone_message o (zone_reply z q))) ≡ Ok (zone_message o (zone_reply z q)) }
+    ensures { (z : ZoneState) (o : List ℕ) (q : Question) → AllByRecursion HasTypedData z.records
+        → IsMessage (zone_message o (zone_reply z q))
+        → reply_message (kept_whole (zone_message o (zone_reply z q))) ≡ Ok (zone_message o (zone_reply z q)) }
 {
     typed_replies_are_built();
 }

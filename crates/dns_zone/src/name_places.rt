@@ -76,7 +76,8 @@ impl NamePlaces {
 
     /// The places that are kept under a path and a type, where there are any.
     pub(crate) fn find(&self, path: &[u8], rtype: u16) -> Option<&[usize]>
-        ensures { MatchOption result (places_under self.now path.now rtype ≡ []) (λ s. (s.now ≡ places_under self.now path.now rtype) × (0 < length s.now)) }
+        ensures { MatchOption result (places_under self.now path.now rtype ≡ [])
+            (λ s. (s.now ≡ places_under self.now path.now rtype) × (0 < length s.now)) }
     {
         match self.kinds.get(path) {
             Some(kinds) => find_kind(kinds, rtype),

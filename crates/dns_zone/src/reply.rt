@@ -99,7 +99,8 @@ impl Zone {
         rtype: u16,
         aliases: &[usize],
     ) -> Result<AdditionalBuilder, PushError>
-        ensures { (name : List (List ℕ)) → AreAliases self.now name aliases.now → Builds (unlimited (zone_message query.now (authoritative (followed self.now rtype 8 name)))) result }
+        ensures { (name : List (List ℕ)) → AreAliases self.now name aliases.now
+            → Builds (unlimited (zone_message query.now (authoritative (followed self.now rtype 8 name)))) result }
     {
         let trail = self.trail(alloc, rtype, aliases)?;
         self.found(alloc, query, trail.as_slice())
@@ -127,7 +128,8 @@ impl Zone {
         rtype: u16,
         path: &Vec<u8>,
     ) -> Result<AdditionalBuilder, PushError>
-        ensures { (q : Question) → path.now.items ≡ name_path q.qname → q.qtype ≡ rtype → is_cut_off self.now q.qname ≡ false → Builds (unlimited (zone_message query.now (zone_reply self.now q))) result }
+        ensures { (q : Question) → path.now.items ≡ name_path q.qname → q.qtype ≡ rtype → is_cut_off self.now q.qname ≡ false
+            → Builds (unlimited (zone_message query.now (zone_reply self.now q))) result }
     {
         let kinds = self.kinds_of(path.as_slice());
         if follows(rtype) {
@@ -192,7 +194,8 @@ impl Zone {
 
     /// The answer to a query, by its first question.
     pub(crate) fn answer(&self, alloc: Global, query: &Message) -> Result<ReplyMessage, ReplyError>
-        ensures answer { GivesReply (zone_answer self.now query.now (header_of query.now).opcode (first_of (questions_of query.now).0)) result }
+        ensures answer { GivesReply (zone_answer self.now query.now (header_of query.now).opcode
+            (first_of (questions_of query.now).0)) result }
         ensures built { IfOk result (IsReplyTo self.now query.now (first_of (questions_of query.now).0)) }
     {
         match query.first_question() {

@@ -68,7 +68,8 @@ fn add_place<B: TakesRecords>(
 ) -> Result<(), PushError>
     requires lawful { AreLawful records.now }
     requires short { KeepsLimit (B.built builder.old) }
-    ensures { Becomes (B.built builder.new) (with_records B.section (B.built builder.old) (map record_of (at_places records.now (place ∷ [])))) result }
+    ensures { Becomes (B.built builder.new) (with_records B.section (B.built builder.old)
+        (map record_of (at_places records.now (place ∷ [])))) result }
 {
     match records.get(place) {
         Some(record) => builder.add(alloc, record),
@@ -85,7 +86,8 @@ pub(crate) fn add_places<B: TakesRecords>(
 ) -> Result<(), PushError>
     requires lawful { AreLawful records.now }
     requires short { KeepsLimit (B.built builder.old) }
-    ensures { Becomes (B.built builder.new) (with_records B.section (B.built builder.old) (map record_of (at_places records.now places.now))) result }
+    ensures { Becomes (B.built builder.new) (with_records B.section (B.built builder.old)
+        (map record_of (at_places records.now places.now))) result }
 {
     'each: for place in places {
         add_place(builder, alloc, records, *place)?;

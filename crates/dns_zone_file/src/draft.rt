@@ -136,7 +136,13 @@ impl Model for ZoneDraft {
 
     ghost Value = { ZoneDraft };
 
-    ghost view = { λ d. record { origin = d.origin; default_ttl = d.default_ttl; last_ttl = d.last_ttl; owner = d.owner; records = d.records.items } };
+    ghost view = { λ d. record {
+      origin = d.origin;
+      default_ttl = d.default_ttl;
+      last_ttl = d.last_ttl;
+      owner = d.owner;
+      records = d.records.items;
+    } };
 
     ghost invariant = { λ d. AreShaped d.records.items };
 }

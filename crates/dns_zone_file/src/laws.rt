@@ -19,13 +19,15 @@ pub fn names_read_back()
 
 /// A line of words is one entry of these words, and what follows it is read behind that.
 pub fn lines_are_entries()
-    ensures { (w : TextWord) (ws : List TextWord) (t : List ℕ) (line : ℕ) (d : ZoneDraft) → AllByRecursion IsWord (w ∷ ws) → steps (scan_begins line) d (words_line w ws ++ t) ≡ read_behind (after_entry d line false (words_on line (w ∷ ws))) line t }
+    ensures { (w : TextWord) (ws : List TextWord) (t : List ℕ) (line : ℕ) (d : ZoneDraft) → AllByRecursion IsWord (w ∷ ws)
+        → steps (scan_begins line) d (words_line w ws ++ t) ≡ read_behind (after_entry d line false (words_on line (w ∷ ws))) line t }
 {}
 
 /// What comes in pieces is read as what comes at once, and the records of all pieces are those of the whole text.
 pub fn a_zone_comes_in_pieces()
     ensures more { (z : ZoneReading) (a b : List ℕ) → after_piece z (a ++ b) ≡ then_piece (after_piece z a) b }
-    ensures whole { (origin : List (List ℕ)) (text : List ℕ) → zone_file origin text ≡ finished_reading (after_piece (reading_begun origin) text) }
+    ensures whole { (origin : List (List ℕ)) (text : List ℕ)
+        → zone_file origin text ≡ finished_reading (after_piece (reading_begun origin) text) }
 {}
 
 /// What is written of records is read as these records, wherever the origin is.

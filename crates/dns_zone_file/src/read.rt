@@ -40,8 +40,12 @@ fn run_and_step<'a>(
     text: &'a [u8],
 ) -> Result<Option<&'a [u8]>, ZoneFileError>
     requires { scan.old.line + length text.now < 2 ^ 64 }
-    ensures value { MatchResult result (λ o. MatchOption o (steps scan.old draft.old text.now ≡ Ok (scan.new, draft.new)) (λ rest. steps scan.old draft.old text.now ≡ steps scan.new draft.new rest.now)) (λ e. FailsAs e (steps scan.old draft.old text.now)) }
-    ensures line { IfOk result (λ o. MatchOption o (scan.new.line ≤ scan.old.line + length text.now) (λ rest. scan.new.line + length rest.now ≤ scan.old.line + length text.now)) }
+    ensures value { MatchResult result (λ o.
+        MatchOption o (steps scan.old draft.old text.now ≡ Ok (scan.new, draft.new))
+        (λ rest. steps scan.old draft.old text.now ≡ steps scan.new draft.new rest.now))
+        (λ e. FailsAs e (steps scan.old draft.old text.now)) }
+    ensures line { IfOk result (λ o. MatchOption o (scan.new.line ≤ scan.old.line + length text.now)
+        (λ rest. scan.new.line + length rest.now ≤ scan.old.line + length text.now)) }
     ensures fewer { IfOk result (λ o. IfSome o (λ rest. length rest.now < length text.now)) }
 {
     let run = scan.take_run(text)?;

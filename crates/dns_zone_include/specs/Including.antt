@@ -104,4 +104,5 @@ included texts (suc n) names name d i = one_text texts (included texts n) names 
 
 -- the records of a text and of those that it includes, each where it is included
 unfoldable pub zone_including : Texts → List (List ℕ) → List ℕ → List ℕ → TextRead (List Record)
-zone_including texts origin name text = text_of name (included texts MOST_LEVELS (name ∷ []) name) (draft_begun origin) text >>= λ d. Ok d.records
+zone_including texts origin name text = text_of name (included texts MOST_LEVELS (name ∷ []) name)
+    (draft_begun origin) text >>= λ d. Ok d.records

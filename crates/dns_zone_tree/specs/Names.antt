@@ -18,7 +18,8 @@ use Rattle.dns_zone_tree.specs.declared.names.Keyed.{Keyed}
 -- keys of records: each lies among the octets, which have no others
 pub record IsKeyed (o : List ℕ) (ks : List Keyed) (rs : List Record) : Type 0 where
   pub kept : (name : List (List ℕ)) (t : ℕ) → places_of t (typed_at o (canonical_key name) ks) ≡ places (is_asked name t) rs
-  pub there : (name : List (List ℕ)) → list_any (begins_keyed o (canonical_key name)) ks ≡ list_any (λ (r : Record). ends_name r.owner name) rs
+  pub there : (name : List (List ℕ)) → list_any (begins_keyed o (canonical_key name)) ks
+      ≡ list_any (λ (r : Record). ends_name r.owner name) rs
   pub within : AllByRecursion (λ (k : Keyed). k.span.end ≤ length o) ks
   pub size : length o ≡ keys_size rs
 

@@ -42,6 +42,7 @@ pub record ReachesNone (z : ZoneState) (t : ℕ) (name : List (List ℕ)) (skipp
 -- what a walk to a name ends at, where a type is asked for
 abbrev pub EndsAt : ZoneState → ℕ → List (List ℕ) → Walk → Type 0
 EndsAt z t name (Cut m) = asked_region z t name ≡ BelowCut (at_places z.records (kind_places 2 m.now))
-EndsAt z t name (Dname m) = (asked_region z t name ≡ BelowDname (at_places z.records (kind_places 39 m.now))) × (0 < length (kind_places 39 m.now))
+EndsAt z t name (Dname m) = (asked_region z t name ≡ BelowDname (at_places z.records (kind_places 39 m.now)))
+    × (0 < length (kind_places 39 m.now))
 EndsAt z t name (Node m) = ReachesNode z t name m.now
 EndsAt z t name (Missing n) = ReachesNone z t name n

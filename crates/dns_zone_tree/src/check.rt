@@ -148,7 +148,8 @@ fn check_soa(apex: &Name, records: &[Record]) -> Result<(), TreeError>
 
 /// Whether a name has more records than one beside RRSIG and NSEC.
 fn has_others(kinds: &Kinds) -> bool
-    ensures { result ≡ nat_lt 1 (length (kind_places 255 kinds.now) - length (kind_places 46 kinds.now) - length (kind_places 47 kinds.now)) }
+    ensures { result ≡ nat_lt 1 (length (kind_places 255 kinds.now) - length (kind_places 46 kinds.now) - length
+        (kind_places 47 kinds.now)) }
 {
     let signatures = kinds.count(Rtype::RRSIG.to_int());
     let denials = kinds.count(Rtype::NSEC.to_int());
@@ -190,7 +191,8 @@ fn first_crowded(
 /// The places of the records of a list that is served, or the first cause why it isn't.
 pub(crate) fn checked(alloc: Global, apex: &Name, records: &[Record]) -> Result<Names, TreeError>
     requires { AreLawful records.now }
-    ensures { MatchResult result (λ n. (tree_error apex.now records.now ≡ None) × KnowsNames n records.now) (λ e. (z : ZoneState) → Makes (tree_error apex.now records.now) z (Err e)) }
+    ensures { MatchResult result (λ n. (tree_error apex.now records.now ≡ None) × KnowsNames n records.now)
+        (λ e. (z : ZoneState) → Makes (tree_error apex.now records.now) z (Err e)) }
 {
     check_places(apex, records)?;
     check_soa(apex, records)?;

@@ -19,7 +19,8 @@ use std::collections::BTreeSet;
 
 /// Adds a place to a set, where it is of a type.
 fn add_kind(set: &mut BTreeSet<usize>, kind: &TypedPlace, rtype: u16) -> Result<(), OutOfMemory>
-    ensures { OnOk result ((i : ℕ) → contains nat_cmp set.new i ≡ (contains nat_cmp set.old i || list_any (nat_eq i) (places_of rtype (kind.now ∷ [])))) }
+    ensures { OnOk result ((i : ℕ) → contains nat_cmp set.new i
+        ≡ (contains nat_cmp set.old i || list_any (nat_eq i) (places_of rtype (kind.now ∷ [])))) }
 {
     match kind.of_type(rtype) {
         Some(place) => {
@@ -32,7 +33,8 @@ fn add_kind(set: &mut BTreeSet<usize>, kind: &TypedPlace, rtype: u16) -> Result<
 
 /// Adds the places of a type to a set.
 fn add_all(set: &mut BTreeSet<usize>, kinds: &[TypedPlace], rtype: u16) -> Result<(), OutOfMemory>
-    ensures { OnOk result ((i : ℕ) → contains nat_cmp set.new i ≡ (contains nat_cmp set.old i || list_any (nat_eq i) (places_of rtype kinds.now))) }
+    ensures { OnOk result ((i : ℕ) → contains nat_cmp set.new i
+        ≡ (contains nat_cmp set.old i || list_any (nat_eq i) (places_of rtype kinds.now))) }
 {
     'each: for kind in kinds {
         add_kind(set, kind, rtype)?;
@@ -42,7 +44,9 @@ fn add_all(set: &mut BTreeSet<usize>, kinds: &[TypedPlace], rtype: u16) -> Resul
 
 /// Adds the places of the addresses of a name to a set.
 fn add_addresses(set: &mut BTreeSet<usize>, kinds: &Kinds) -> Result<(), OutOfMemory>
-    ensures { OnOk result ((i : ℕ) → contains nat_cmp set.new i ≡ ((contains nat_cmp set.old i || list_any (nat_eq i) (kind_places 1 kinds.now)) || list_any (nat_eq i) (kind_places 28 kinds.now))) }
+    ensures { OnOk result ((i : ℕ) → contains nat_cmp set.new i
+        ≡ ((contains nat_cmp set.old i || list_any (nat_eq i) (kind_places 1 kinds.now))
+        || list_any (nat_eq i) (kind_places 28 kinds.now))) }
 {
     add_all(set, kinds.as_slice(), Rtype::A.to_int())?;
     add_all(set, kinds.as_slice(), Rtype::AAAA.to_int())
@@ -78,7 +82,8 @@ impl ZoneTree {
         host: &Name,
         addresses: &mut BTreeSet<usize>,
     ) -> Result<(), OutOfMemory>
-        ensures { OnOk result ((i : ℕ) → contains nat_cmp addresses.new i ≡ (contains nat_cmp addresses.old i || passes (is_address_of host.now) (slice_get self.now.records i))) }
+        ensures { OnOk result ((i : ℕ) → contains nat_cmp addresses.new i
+            ≡ (contains nat_cmp addresses.old i || passes (is_address_of host.now) (slice_get self.now.records i))) }
     {
         let found = self.node(alloc, &host.for_ref())?;
         match found {
@@ -94,7 +99,8 @@ impl ZoneTree {
         server: &Record,
         addresses: &mut BTreeSet<usize>,
     ) -> Result<(), OutOfMemory>
-        ensures { OnOk result ((i : ℕ) → contains nat_cmp addresses.new i ≡ (contains nat_cmp addresses.old i || passes (is_address_at (target server.now.rdata)) (slice_get self.now.records i))) }
+        ensures { OnOk result ((i : ℕ) → contains nat_cmp addresses.new i
+            ≡ (contains nat_cmp addresses.old i || passes (is_address_at (target server.now.rdata)) (slice_get self.now.records i))) }
     {
         match record_target(server) {
             Some(host) => self.add_host(alloc, host, addresses),
@@ -109,7 +115,9 @@ impl ZoneTree {
         kind: &TypedPlace,
         addresses: &mut BTreeSet<usize>,
     ) -> Result<(), OutOfMemory>
-        ensures { OnOk result ((i : ℕ) → contains nat_cmp addresses.new i ≡ (contains nat_cmp addresses.old i || passes (is_glue (at_places self.now.records (places_of 2 (kind.now ∷ [])))) (slice_get self.now.records i))) }
+        ensures { OnOk result ((i : ℕ) → contains nat_cmp addresses.new i
+            ≡ (contains nat_cmp addresses.old i || passes (is_glue (at_places self.now.records (places_of 2 (kind.now ∷ []))))
+            (slice_get self.now.records i))) }
     {
         match kind.record(self.records.as_slice(), Rtype::NS.to_int()) {
             Some(server) => self.add_target(alloc, server, addresses),
@@ -119,7 +127,8 @@ impl ZoneTree {
 
     /// The places of the addresses of the hosts that the NS records at places name, as a set.
     fn addresses(&self, alloc: Global, kinds: &[TypedPlace]) -> Result<BTreeSet<usize>, OutOfMemory>
-        ensures { IfOk result (λ s. (i : ℕ) → contains nat_cmp s i ≡ passes (is_glue (at_places self.now.records (places_of 2 kinds.now))) (slice_get self.now.records i)) }
+        ensures { IfOk result (λ s. (i : ℕ) → contains nat_cmp s i
+            ≡ passes (is_glue (at_places self.now.records (places_of 2 kinds.now))) (slice_get self.now.records i)) }
     {
         let mut addresses = BTreeSet::new(alloc);
         'each: for kind in kinds {
@@ -130,7 +139,8 @@ impl ZoneTree {
 
     /// The places of the addresses of the hosts that the NS records of a name name, in order.
     pub fn glue(&self, alloc: Global, cut: &Kinds) -> Result<Vec<usize>, OutOfMemory>
-        ensures { IfOk result (λ v. at_places self.now.records v.items ≡ glue self.now (at_places self.now.records (kind_places 2 cut.now))) }
+        ensures { IfOk result (λ v. at_places self.now.records v.items
+            ≡ glue self.now (at_places self.now.records (kind_places 2 cut.now))) }
     {
         let addresses = self.addresses(alloc, cut.as_slice())?;
         in_order(alloc, &addresses)

@@ -45,7 +45,14 @@ impl Keys {
         requires size { length self.old.octets.items + length key.now ≤ size_limit }
         requires place { place ≤ size_limit }
         ensures octets { OnOk result (self.new.octets.items ≡ self.old.octets.items ++ key.now) }
-        ensures keyed { OnOk result (self.new.keyed.items ≡ self.old.keyed.items ++ (record { span = record { start = length self.old.octets.items; end = length self.old.octets.items + length key.now }; kind = record { rtype = rtype; place = place } }) ∷ []) }
+        ensures keyed { OnOk result (self.new.keyed.items
+            ≡ self.old.keyed.items ++ (record {
+              span = record {
+                start = length self.old.octets.items;
+                end = length self.old.octets.items + length key.now;
+              };
+              kind = record { rtype = rtype; place = place };
+            }) ∷ []) }
     {
         let start = self.octets.len();
         let end = start + key.len();
@@ -63,7 +70,8 @@ impl Keys {
 /// The keys of the owners of a list of records that is no longer than an index is.
 fn keys_of(alloc: Global, records: &[Record]) -> Result<Keys, TreeError>
     requires { length records.now ≤ size_limit }
-    ensures { MatchResult result (λ k. (size_error records.now ≡ None) × IsKeyed k.octets.items k.keyed.items records.now) (λ e. (z : ZoneState) → Makes (size_error records.now) z (Err e)) }
+    ensures { MatchResult result (λ k. (size_error records.now ≡ None) × IsKeyed k.octets.items k.keyed.items records.now)
+        (λ e. (z : ZoneState) → Makes (size_error records.now) z (Err e)) }
 {
     let mut keys = Keys::new(alloc, records.len())?;
     'each: for (place, record) in records.iter().enumerate() {
@@ -116,7 +124,8 @@ impl Joining {
 
     /// Makes the node of a key of the places that have none.
     fn close(&mut self, alloc: Global, span: Span) -> Result<(), OutOfMemory>
-        ensures nodes { OnOk result (self.new.nodes.items ≡ self.old.nodes.items ++ (record { span = span; kinds = self.old.pending }) ∷ []) }
+        ensures nodes { OnOk result (self.new.nodes.items
+            ≡ self.old.nodes.items ++ (record { span = span; kinds = self.old.pending }) ∷ []) }
         ensures pending { OnOk result (self.new.pending.places.items ≡ []) }
     {
         let kinds = mem::replace(&mut self.pending, Kinds::new(alloc));
@@ -132,7 +141,9 @@ impl Joining {
         first: &Keyed,
         behind: &[Keyed],
     ) -> Result<(), OutOfMemory>
-        ensures { (all : List Keyed) → IsJoining octets.now all self.old.nodes.items self.old.pending.places.items (first.now ∷ behind.now) → OnOk result (IsJoining octets.now all self.new.nodes.items self.new.pending.places.items behind.now) }
+        ensures { (all : List Keyed) → IsJoining octets.now all self.old.nodes.items self.old.pending.places.items
+            (first.now ∷ behind.now) → OnOk result (IsJoining octets.now all self.new.nodes.items self.new.pending.places.items
+            behind.now) }
     {
         self.pending.push(first.kind)?;
         if is_last(octets, first.span, behind) {
@@ -173,7 +184,8 @@ fn indexed(alloc: Global, keys: Keys) -> Result<Names, OutOfMemory>
 
 /// The index of a list of records, or that it is too large for one.
 pub(crate) fn names_of(alloc: Global, records: &[Record]) -> Result<Names, TreeError>
-    ensures { MatchResult result (λ n. (size_error records.now ≡ None) × KnowsNames n records.now) (λ e. (z : ZoneState) → Makes (size_error records.now) z (Err e)) }
+    ensures { MatchResult result (λ n. (size_error records.now ≡ None) × KnowsNames n records.now)
+        (λ e. (z : ZoneState) → Makes (size_error records.now) z (Err e)) }
 {
     if records.len() > LARGEST {
         return Err(TreeError::Large);

@@ -57,7 +57,8 @@ impl TypedPlace {
 
     /// The record of a list at the place, where it has a type.
     pub fn record<'a>(&self, records: &'a [Record], rtype: u16) -> Option<&'a Record>
-        ensures value { MatchOption result (at_places records.now (places_of rtype (self.now ∷ [])) ≡ []) (λ r. at_places records.now (places_of rtype (self.now ∷ [])) ≡ r.now ∷ []) }
+        ensures value { MatchOption result (at_places records.now (places_of rtype (self.now ∷ [])) ≡ [])
+            (λ r. at_places records.now (places_of rtype (self.now ∷ [])) ≡ r.now ∷ []) }
         ensures lawful { AreLawful records.now → IfSome result (λ r. IsLawful r.now.rdata) }
     {
         match self.of_type(rtype) {

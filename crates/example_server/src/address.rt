@@ -81,7 +81,8 @@ fn record_for(
 
 /// Begins the reply, with AA set. None if the questions have no room.
 fn begin(alloc: Global, message: &Message) -> Result<Option<AnswerBuilder>, OutOfMemory>
-    ensures { IfOk result (λ o. MatchOption o (have_room new_builder message.now 0 ≡ false) (λ b. (b ≡ authoritative (answer_to new_builder message.now 0)) × (have_room new_builder message.now 0 ≡ true))) }
+    ensures { IfOk result (λ o. MatchOption o (have_room new_builder message.now 0 ≡ false)
+        (λ b. (b ≡ authoritative (answer_to new_builder message.now 0)) × (have_room new_builder message.now 0 ≡ true))) }
 {
     let builder = mk_builder_for_target(alloc)?;
     match builder.start_answer(alloc, message, Rcode::NOERROR) {

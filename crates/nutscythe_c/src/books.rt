@@ -108,7 +108,8 @@ pub extern "C" fn nutscythe_raw_configure(
 ) -> u32
     ensures { (t : TheStatus) × (result ≡ number t)
         × OfFirst settings.old settings.new (λ h i. (i.kept ≡ h.kept) × OfFirst handle.old handle.new
-        (λ c d. UsesBy Use.Configuration h.kept c.kept d.kept t) (t ≡ TheStatus.NullPointer)) (t ≡ TheStatus.NullPointer × handle.new ≡ handle.old) }
+        (λ c d. UsesBy Use.Configuration h.kept c.kept d.kept t) (t ≡ TheStatus.NullPointer))
+        (t ≡ TheStatus.NullPointer × handle.new ≡ handle.old) }
 {
     use_at(alloc, Use::Configuration, settings, handle) as u32
 }

@@ -10,4 +10,5 @@ code_for (Some key) = 3
 code_for None = 5
 
 abbrev pub reply_by_key : {K : Type 0} → Bool → Req (Option K) → Item
-reply_by_key fails r = if fails then Err InternalError else Ok (record { response = Some (error_reply r.octets (code_for r.metadata)); feedback = None })
+reply_by_key fails r = if fails then Err InternalError
+    else Ok (record { response = Some (error_reply r.octets (code_for r.metadata)); feedback = None })

@@ -86,7 +86,13 @@ pub fn assemble(
     authority: &[CopiedRecord],
     additional: &[CopiedRecord],
 ) -> Result<AdditionalBuilder, PushError>
-    ensures { Builds (unlimited (record { header = header; questions = questions.now; answers = answers.now; authority = authority.now; additional = additional.now })) result }
+    ensures { Builds (unlimited (record {
+      header = header;
+      questions = questions.now;
+      answers = answers.now;
+      authority = authority.now;
+      additional = additional.now;
+    })) result }
 {
     let asked = questions_built(alloc, header, questions)?;
     let answered = asked.answer().with_all(alloc, answers)?;

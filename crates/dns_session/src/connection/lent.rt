@@ -26,7 +26,8 @@ impl<W: SharedService> OpenConnection<W> {
     ) -> Result<Outcome, OutOfMemory>
         requires can_call { W.can_call service.now }
         requires empty { self.old.framer ≡ [] }
-        ensures { IfOk result (λ outcome. Leads (request_answer W.Future.answer W.Stream.answer) (serving (W.answer service.now) (W.hint service.now)) (record self.old { framer = piece.now }) self.new outcome
+        ensures { IfOk result (λ outcome. Leads (request_answer W.Future.answer W.Stream.answer)
+            (serving (W.answer service.now) (W.hint service.now)) (record self.old { framer = piece.now }) self.new outcome
             (λ s. take_frames at secs (frames piece.now) s)) }
     {
         let mut rest = piece;
@@ -52,8 +53,10 @@ impl<W: SharedService> OpenConnection<W> {
         requires can_call { W.can_call service.now }
         requires empty { self.old.framer ≡ [] }
         ensures { IfOk result (λ p. MatchOption p.0
-            (TakesLent (request_answer W.Future.answer W.Stream.answer) (serving (W.answer service.now) (W.hint service.now)) at secs self.old self.new octets.now p.1)
-            (λ outcome. Leads (request_answer W.Future.answer W.Stream.answer) (serving (W.answer service.now) (W.hint service.now)) (record self.old { framer = octets.now }) self.new outcome (λ s. take_frames at secs (frames octets.now) s))) }
+            (TakesLent (request_answer W.Future.answer W.Stream.answer)
+            (serving (W.answer service.now) (W.hint service.now)) at secs self.old self.new octets.now p.1)
+            (λ outcome. Leads (request_answer W.Future.answer W.Stream.answer) (serving (W.answer service.now) (W.hint service.now))
+            (record self.old { framer = octets.now }) self.new outcome (λ s. take_frames at secs (frames octets.now) s))) }
     {
         let Some((frame, size)) = first_of(alloc, octets)? else {
             return self.keep_lent(alloc, octets);
@@ -68,7 +71,8 @@ impl<W: SharedService> OpenConnection<W> {
         alloc: Global,
         octets: &[u8],
     ) -> Result<(Option<Outcome>, usize), OutOfMemory>
-        ensures { IfOk result (λ p. (p.0 ≡ Some Outcome.Nothing) × (p.1 ≡ 0) × (self.new ≡ record self.old { framer = self.old.framer ++ octets.now })) }
+        ensures { IfOk result (λ p. (p.0 ≡ Some Outcome.Nothing) × (p.1 ≡ 0)
+            × (self.new ≡ record self.old { framer = self.old.framer ++ octets.now })) }
     {
         self.framer.feed(alloc, octets)?;
         Ok((Some(Outcome::Nothing), 0))
