@@ -140,8 +140,8 @@ EndedSo (Some Shutdown) count taken k k' = (count ≢ 0 → taken ≢ count) × 
 EndedSo (Some NoMemory) count taken k k' = ⊥
 EndedSo None count taken k k' = (count ≢ 0 → taken ≢ count) × LookedAt false k k'
 
--- How a loop of accepts went with an accept object and a spawner, which are read so, and whether an accept failed or a start was
--- refused. Neither count fell.
+-- How a loop of accepts went with an accept object and a spawner, which are read so. `risen` says whether an accept failed or a
+-- start was refused. Neither count fell.
 pub record AcceptsRan {S P : Type 0} (tells : S → Type 0) (accept_traffic : S → AcceptTraffic) (failed : S → ℕ) (works : P → Type 0)
     (given : P → List SocketAddr) (refused : P → ℕ)
     (end : AcceptEnd) (risen : Bool) (count : ℕ) (k k' : Known) (a b : S) (p q : P) : Type 0 where

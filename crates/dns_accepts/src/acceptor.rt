@@ -263,8 +263,8 @@ where
         }
     }
 
-    /// Makes one accept. A connection that comes is taken; where none came, it waits, and then joins threads whose work has
-    /// ended, so that their stacks are free also where nothing can be accepted any more.
+    /// Makes one accept. A connection that comes is taken; if none came, it waits. Then it joins threads whose work has ended, so
+    /// that their stacks are free even if nothing can be accepted any more.
     fn accept_once<A: AsyncAccept, P: Spawner<ConnectionWork<A::Link, C, Silent, W>>>(
         &self,
         seat: BookSeat,

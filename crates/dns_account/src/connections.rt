@@ -46,9 +46,10 @@ fn ended<
 }
 
 #[tactic(auto, using(crate::proofs::Lawful::lawful, crate::proofs::Closings::end_seen))]
-/// THE LAW of connections. Each connection that a host serves over witnesses is such a work, and its thread does this: over any link,
-/// real sockets too, and by any clock, the octets handed to the link are the frames that the rules for this client alone give for
-/// the octets taken from it and the events that it heard, in order, and then perhaps a part of one more. Nothing need tell.
+/// THE LAW of connections. Each connection that a host serves over witnesses is such a work, and its thread does this: over any
+/// link, real sockets too, and by any clock. The octets handed to the link are frames that the rules for this client alone give.
+/// They give them for the octets taken from it and the events that it heard, in order. A part of one more may follow. Nothing need
+/// tell.
 pub fn every_connection_kept_to_the_rules<
     R: Wait,
     L: Link + Send + Drop + 'static,

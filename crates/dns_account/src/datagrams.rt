@@ -55,8 +55,8 @@ pub fn serve_datagrams_over<R: Wait, D: AsyncDgramSock + Drop, C: Clock + Drop, 
 }
 
 #[tactic(auto, using(crate::proofs::Lawful::datagrams_lawful))]
-/// THE LAW of datagrams, over any socket, real ones too, and by any clock. Each datagram that the socket's calls gave is an exchange of its
-/// own, and what was sent is what the rules give for these, each to the address of its own exchange. Nothing need tell.
+/// THE LAW of datagrams, over any socket, real ones too, and by any clock. Each datagram that the socket's calls gave is an
+/// exchange of its own. What was sent is what the rules give for these, each to the address of its own exchange. Nothing need tell.
 pub fn every_datagram_kept_to_the_rules<
     R: Wait,
     D: AsyncDgramSock + Drop,

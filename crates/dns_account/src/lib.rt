@@ -1,5 +1,5 @@
-//! What is promised of each connection, of each datagram and of each host that is served over witnesses (dns_witness),
-//! and so over the machine's sockets too.
+//! What is promised of each connection, datagram and host that is served over witnesses (dns_witness), and so over the machine's
+//! sockets too.
 //!
 //! - `serve_connection_over` and `serve_datagrams_over` serve as the loops of dns_stream_driver and dns_dgram_driver
 //!   do, over witnesses of a link, a socket and a clock. They keep what was noted.
@@ -21,8 +21,8 @@
 //!   may be missing if memory ran out.
 //! - What was sent are datagrams that the rules send for these events, each to the address of its exchange. Those are
 //!   left out whose send failed or was late.
-//! - A connection ends for Ended only if a read of its link answered End, and for Short only if the octets that its reads
-//!   took hold a frame shorter than a header (`EndSeen`).
+//! - A connection ends for Ended only if a read of its link answered End. It ends for Short only if the octets that its reads took
+//!   hold a frame shorter than a header (`EndSeen`).
 //! - A host: those who came by its accept object are those of its turns. Each that was admitted was given to the spawner
 //!   as work, in order. Its datagrams keep to the law (`HostKept`).
 //! - The clauses of the loops and of the host hold whether or not the objects beneath tell.

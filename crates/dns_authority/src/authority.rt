@@ -228,9 +228,9 @@ impl<Meta> Service<Meta> for Authority {
 
     ghost hint = { λ _. hint_at_entry };
 
-    /// The response code is NOTIMP for an opcode other than QUERY, FORMERR where a query doesn't have one readable question,
-    /// and REFUSED for a class other than IN, for a name that is in no zone and for a transfer that isn't allowed. The error
-    /// is InternalError where a reply doesn't fit 65,535 octets, and there is no other.
+    /// The response code is NOTIMP for an opcode other than QUERY, and FORMERR if a query doesn't have one readable question. It is
+    /// REFUSED for a class other than IN, for a name that is in no zone and for a transfer that isn't allowed. The error is
+    /// InternalError where a reply doesn't fit 65,535 octets, and there is no other.
     fn call(
         &self,
         alloc: Global,

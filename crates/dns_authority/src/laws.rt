@@ -13,7 +13,7 @@ pub fn the_longest_apex_answers()
     ensures { LongestAnswers }
 {}
 
-/// A query for a transfer at the apex of the zone that it asks is answered by the transfer where it is allowed, and else
+/// A query for a transfer at the apex of the zone that it asks is answered by the transfer if it is allowed. Else it is answered
 /// REFUSED.
 pub fn transfers_are_answered<Meta>()
     ensures { TransfersAreAnswered Meta }

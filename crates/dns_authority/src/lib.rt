@@ -6,8 +6,8 @@
 //! - `Network` is the addresses whose first bits are those of an address.
 //! - `AuthorityStream` and `AuthorityFuture` are its replies: one reply, or the replies of a transfer.
 //!
-//! The reply to a question is that of dns_name_server, and the replies of a transfer come from dns_transfer. A refusal
-//! is a reply with a response code, so that the layers give it an OPT record and a cookie as they do any other.
+//! The reply to a question is that of dns_name_server, and the replies of a transfer come from dns_transfer. A refusal is a reply
+//! with a response code. So the layers give it an OPT record and a cookie as they do any other.
 //!
 //! ```text
 //! question -> no zone, or another class than IN: REFUSED

@@ -17,8 +17,8 @@ pub struct Share {
     pub calls: LinkedList<Entry>,
 }
 
-/// What a seat knows: the state that the book began with, the seat's name, the history as far as the
-/// seat has seen it, and the calls that it keeps, by name. No value of it is made.
+/// What a seat knows: the state that the book began with and the seat's name. Then the history as far as the seat has seen it, and
+/// the calls kept by name. No value of it is made.
 pub struct Known {
     pub opening: Look,
     pub name: LinkedList<bool>,

@@ -32,8 +32,8 @@ fn budget_in(word: u64) -> Option<u32>
     Some(word.min(1_000_000) as u32)
 }
 
-/// Of the flags: bit 0 says closed, bit 1 that connections at the limit are accepted, bit 2 that there
-/// is a response size, which begins at bit 3.
+/// Of the flags: bit 0 says closed, bit 1 that connections at the limit are accepted, bit 2 that there is a response size. The size
+/// begins at bit 3.
 pub fn book_words(look: &Look) -> BookWords
     ensures { state_of result ≡ look.now }
 {

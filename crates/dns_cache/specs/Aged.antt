@@ -14,7 +14,7 @@ aged_record age r = if nat_eq r.rtype 41 then r else record r { ttl = r.ttl - ag
 abbrev pub asked_header : Header → Header → Header
 asked_header h request = record h { id = request.id; rd = request.rd }
 
--- a message with the identifier, the RD bit and the question of the octets of a request, and each TTL lowered by the age in s
+-- a message with the identifier, the RD bit and the question of the octets of a request. Each TTL is lowered by the age in s
 abbrev pub aged : Msg → List ℕ → ℕ → Msg
 aged m request age = record {
   header = asked_header m.header (header_of request);

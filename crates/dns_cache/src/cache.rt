@@ -18,9 +18,9 @@ use std::hash::RandomState;
 use std::marker::Model;
 use std::num::NonZeroUsize;
 
-/// Replies of a single service, kept as long as the least TTL of their records, and each for one question, with the DO bit
-/// or without (RFC 2181, section 8; RFC 2308, section 5). Contracts see the entries, the most recently used first, and how
-/// many there may be.
+/// Replies of a single service, kept as long as the least TTL of their records. Each is kept for one question, with the DO bit or
+/// without (RFC 2181, section 8; RFC 2308, section 5). Contracts see the entries, the most recently used first, and how many there
+/// may be.
 #[derive(Drop)]
 pub struct Cache {
     entries: LruCache<CacheKey, CachedReply, Seed>,
@@ -93,8 +93,8 @@ impl Cache {
         self.entries.clear();
     }
 
-    /// Removes the reply that is kept for a request's question, with the DO bit or without as the request has it, and says
-    /// whether there was one. A refused call leaves the cache.
+    /// Removes the reply that is kept for a request's question, with the DO bit or without as the request has it. It says whether
+    /// there was one. A refused call leaves the cache.
     pub fn remove(&mut self, alloc: Global, request: &Request<()>) -> Result<bool, OutOfMemory>
         ensures found { IfOk result (λ b. b ≡ has_entry self.old (key_of request.now.octets)) }
         ensures cache { OnOk result (self.new ≡ without_entry self.old (key_of request.now.octets)) }
@@ -109,9 +109,9 @@ impl Cache {
         }
     }
 
-    /// Answers turn k of a request, whose seconds are the time: at turn 0 out of the cache, where a reply is kept that is
-    /// young, and else by the service, whose reply is kept where it can be. A reply out of the cache has the request's
-    /// identifier, RD bit and question, and its TTLs are lowered by its age. A refused call leaves the cache.
+    /// Answers turn k of a request, whose seconds are the time: at turn 0 out of the cache, if a young reply is kept, and else by
+    /// the service. The service's reply is kept if it can be. A reply out of the cache has the request's identifier, RD bit and
+    /// question, and its TTLs are lowered by its age. A refused call leaves the cache.
     pub fn ask<S: SingleService>(
         &mut self,
         alloc: Global,

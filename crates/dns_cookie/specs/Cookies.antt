@@ -85,8 +85,8 @@ abbrev pub response : List ℕ → Cookie → ℕ → IpAddr → Cookie
 response secret c timestamp address =
     record { client = c.client; server = Some (server_cookie secret c.client timestamp address) }
 
--- a check of a standard server cookie asks the caller once whether its timestamp is accepted, and is
--- true exactly where it is and the hash agrees
+-- a check of a standard server cookie asks the caller once whether its timestamp is accepted. It is true exactly if it is and the
+-- hash agrees
 pub record IsChecked (accepts : Serial → Bool → Type 0) (secret client : List ℕ) (address : IpAddr) (s : List ℕ)
     (result : Bool) : Type 0 where
   pub accepted : Bool

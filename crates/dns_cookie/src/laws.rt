@@ -23,8 +23,8 @@ pub fn check_at(cookie: &Cookie, client_ip: IpAddr, secret: &[u8; 16], now: Seri
     cookie.check_server_hash(client_ip, secret, |timestamp| timestamp_ok(timestamp, now))
 }
 
-/// The cookie of a response, checked for the same address under the same secret, checks true exactly where the closure
-/// accepts its timestamp, and is good exactly as long as that is timely.
+/// The cookie of a response is checked for the same address under the same secret. It checks true exactly if the closure accepts
+/// its timestamp, and is good exactly as long as that is timely.
 pub fn responses_check<F: FnOnce(Serial) -> bool>()
     ensures check { (f : F) (secret : List ℕ) (c : Parts) (timestamp : ℕ) (address : Address) (result : Bool) → timestamp < 2 ^ 32
         → Checks (F.post f) secret address (response secret c timestamp address) result ↔ F.post f (record { 0 = timestamp }) result }

@@ -16,8 +16,8 @@ use std::marker::Model;
 /// The server cookie that servers of one site share: a version, three reserved octets, a timestamp
 /// in seconds and a hash of eight octets.
 ///
-/// It is kept as its 16 octets, since the hash is taken over the first eight as they came, and
-/// equality and order are those of the octets.
+/// It is kept as its 16 octets, since the hash is taken over the first eight as they came. Equality and order are those of the
+/// octets.
 #[derive(Clone, Copy, Debug, PartialEq, Eq, PartialOrd, Ord, Hash)]
 pub struct StandardServerCookie {
     octets: [u8; 16],

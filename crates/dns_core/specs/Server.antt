@@ -24,7 +24,7 @@ pub record SendsFor (answers : Serving) (settings : Settings) (q : List Event) (
   pub sent : out answers settings (q ++ e ∷ []) ≡ out answers settings q ++ more
 
 module _ {W R F : Type 0} (answer : PolledRequest F R → ℕ → Answer) (answers : Serving) where
-  -- the cores of the members that aren't spent, which heard the book's version, the numbers that were used, and the book, whose
+  -- the cores of the members that aren't spent, which heard the book's version; the numbers that were used; and the book, whose
   -- version counts the events at most
   pub record Serves (settings : Settings) (q : List Event) (server : Server W R F) : Type 0 where
     pub clients : (c : ℕ) → Holds answer answers (get nat_cmp server.clients c) (list_any (nat_eq c) (members answers settings q))

@@ -30,9 +30,8 @@ ghost use Rattle.dns_core.specs.WrappedServing.{wrapped_serving};
 ghost use Rattle.dns_middleware.specs.Verdicts.{Verdicts};
 ghost use Rattle.dns_events.specs.declared.settings.Settings.{Settings};
 
-/// The headline, read by client. Of all that is sent, what is for an exchange or a connection is what the rules for it
-/// alone send for the events that it hears; to a client that was turned away it is told so, once; and nothing is for any
-/// other.
+/// The headline, read by client. Of all that is sent, what is for an exchange or a connection is what the rules for it alone send
+/// for its events; to a client that was turned away it is told so, once; and nothing is for any other.
 pub fn clients_are_sent_their_own()
     ensures own { (answers : Serving) (settings : Settings) (c : ℕ) (es : List Event)
         → is_member answers settings c es ≡ true
@@ -54,8 +53,8 @@ pub fn others_change_nothing()
         → filter (is_for c) (out answers settings es) ≡ filter (is_for c) (out answers settings fs) }
 {}
 
-/// What is sent for the first of some events is the front of what is sent for all of them, to one client and to all. What
-/// one event more adds to what each client that hears it is sent is that client's gain.
+/// What is sent for the first of some events is the front of what is sent for all. That holds for one client and for all. What one
+/// event more adds to what each client that hears it is sent is that client's gain.
 pub fn more_events_send_more()
     ensures one { (answers : Serving) (settings : Settings) (p r : List Event)
         → IsPrefix (sent answers settings p) (sent answers settings (p ++ r)) }
@@ -79,12 +78,12 @@ pub fn replies_answer_what_was_asked()
     dns_service::cut_fits();
 }
 
-/// A client is sent its replies in order: each message that it is sent, and each frame of its queue, is the reply to one poll of one
-/// of its requests, or refuses a response with FORMERR, and those of one request stand in the order of its polls, each at most once.
-/// Of what its requests were polled for, a reply was sent unless it waits in the queue, is the one that its request holds, or was
-/// dropped outside of a transaction, since the queue stood full or the response budget was spent in that window of time; a connection
-/// that closes forgets its requests. Where a service is served in its layers, each reply that is sent carries the identifier of the
-/// request that it is the reply to, and QR.
+/// A client is sent its replies in order: each message that it is sent is the reply to one poll of one of its requests, or refuses
+/// a response with FORMERR. So is each frame of its queue. Those of one request stand in the order of its polls, each at most once.
+/// Take a reply that one of its requests was polled for. It was sent, or waits in the queue, or is the one that its request holds,
+/// or was dropped outside of a transaction. It is dropped if the queue stood full or the response budget was spent in that window
+/// of time; a connection that closes forgets its requests. If a service is served in its layers, each reply that is sent carries
+/// the identifier of the request that it replies to, and QR.
 pub fn replies_keep_their_order()
     ensures sent { (answers : Serving) (settings : Settings) (c : ℕ) (es : List Event)
         → AreFrom answers (trail_of answers settings (own c es)).went (messages_sent (sent answers settings (own c es))) }
@@ -103,8 +102,8 @@ pub fn replies_keep_their_order()
     dns_middleware::wrapped_replies_respond();
 }
 
-/// A piece cut in two, both parts at its moment and seconds and next to each other, changes nothing of what its client and all are sent,
-/// wherever it is cut.
+/// A piece cut in two, wherever it is cut, changes nothing of what its client and all are sent. Both parts come at its moment and
+/// seconds and next to each other.
 pub fn cut_pieces_change_nothing()
     ensures one { (answers : Serving) (settings : Settings) (client at secs : ℕ) (a b : List ℕ) (p r : List Event)
         → sent answers settings (p ++ piece_of client at secs (a ++ b) ∷ r)
@@ -218,8 +217,8 @@ pub fn idle_events_leave_a_slate()
         → rule answers e (slate_by answers settings es) ≡ (slate_by answers settings es, []) }
 {}
 
-/// Whatever a client hears, its queue has no more replies than its bound, which is that of the configuration in force when its offer
-/// was heard, and stays so from then on.
+/// Whatever a client hears, its queue has no more replies than its bound. That is the bound of the configuration in force when its
+/// offer was heard, and stays so from then on.
 pub fn queues_keep_their_bound()
     ensures within { (answers : Serving) (settings : Settings) (es : List Event)
         → length (slate_by answers settings es).queue ≤ (slate_by answers settings es).bound }
@@ -233,8 +232,8 @@ pub fn queues_keep_their_bound()
         → (slate_by answers settings (es ++ fs)).bound ≡ (slate_by answers settings es).bound }
 {}
 
-/// Where time doesn't go back, windows keep their length, and no configuration allows more than b replies in one of them, a connection
-/// queues at most b replies in each window of time: a reconfigure refills nothing.
+/// Let time not go back, windows keep their length, and no configuration allow more than b replies in one. Then a connection queues
+/// at most b replies in each window: a reconfigure refills nothing.
 pub fn budgets_are_kept()
     ensures { (answers : Serving) (settings : Settings) (es fs : List Event) (b w n : ℕ)
         → IsBudget (Some b) → AllowsAtMost b w (slate_by answers settings es).conf.stream.connection_config

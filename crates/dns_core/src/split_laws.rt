@@ -33,9 +33,9 @@ ghost use Rattle.dns_middleware.specs.Verdicts.{Verdicts};
 ghost use Rattle.dns_events.specs.declared.settings.Settings.{Settings};
 
 /// The headline, read by client. Of all that is sent for some steps, what is for an exchange or a connection is what the rules for
-/// it alone send for its own events and, before each look of it, the changes of the server that it has not heard of. A client whose
-/// offer finds every slot taken is told so, once; whoever began, and is no exchange and no connection, made such an offer; and who
-/// didn't begin is sent nothing.
+/// it alone send. They send it for its own events and, before each look of it, the changes of the server that it has not heard of.
+/// A client whose offer finds every slot taken is told so, once; whoever began, and is no exchange and no connection, made such an
+/// offer; and who didn't begin is sent nothing.
 pub fn clients_are_sent_what_they_heard()
     ensures own { (answers : Serving) (settings : Settings) (c : ℕ) (steps : List Step)
         → is_served answers settings c steps ≡ true
@@ -68,16 +68,17 @@ pub fn slots_are_counted()
         → (membership answers settings q).book.taken ≡ slots_held answers settings q }
 {}
 
-/// Whatever the others do, and whenever: two lists of steps by which a client hears the same events and the same changes of the
-/// server between them, in neither of which it was turned away, send it the same.
+/// Whatever the others do, and whenever: take two lists of steps by which a client hears the same events and the same changes of
+/// the server between them. If neither turned it away, both send it the same.
 pub fn interleavings_change_nothing()
     ensures { (answers : Serving) (settings : Settings) (c : ℕ) (p q : List Step)
         → placed settings c p ≡ placed settings c q → was_refused answers settings c p ≡ false → was_refused answers settings c q ≡ false
         → filter (is_for c) (outs answers settings p) ≡ filter (is_for c) (outs answers settings q) }
 {}
 
-/// What is sent for the first of some steps is the front of what is sent for all of them, to one client and to all. What one step more
-/// adds to what a client is sent is its gain, and that is what the rules send it, at its slate, for what it hears with this step.
+/// What is sent for the first of some steps is the front of what is sent for all. That holds for one client and for all. What one
+/// step more adds to what a client is sent is its gain. That is what the rules send it, at its slate, for what it hears with this
+/// step.
 pub fn more_steps_send_more()
     ensures one { (answers : Serving) (settings : Settings) (c : ℕ) (p r : List Step)
         → IsPrefix (sent answers settings (placed settings c p)) (sent answers settings (placed settings c (p ++ r))) }
@@ -102,12 +103,12 @@ pub fn replies_of_steps_answer_what_was_asked()
     dns_service::cut_fits();
 }
 
-/// A client is sent its replies in order, as where it hears of all at once: each message that it is sent, and each frame of its
-/// queue, is the reply to one poll of one of its requests, or refuses a response with FORMERR, and those of one request stand in the
-/// order of its polls, each at most once. Of what its requests were polled for, a reply was sent unless it waits in the queue, is the
-/// one that its request holds, or was dropped outside of a transaction, since the queue stood full or the response budget was spent in
-/// that window of time; a connection that closes forgets its requests. Where a service is served in its layers, each reply that is sent
-/// carries the identifier of the request that it is the reply to, and QR.
+/// A client is sent its replies in order, as where it hears of all at once: each message that it is sent is the reply to one poll
+/// of one of its requests, or refuses a response with FORMERR. So is each frame of its queue. Those of one request stand in the
+/// order of its polls, each at most once. Take a reply that one of its requests was polled for. It was sent, or waits in the queue,
+/// or is the one that its request holds, or was dropped outside of a transaction. It is dropped if the queue stood full or the
+/// response budget was spent in that window of time; a connection that closes forgets its requests. If a service is served in its
+/// layers, each reply that is sent carries the identifier of the request that it replies to, and QR.
 pub fn replies_of_steps_keep_their_order()
     ensures sent { (answers : Serving) (settings : Settings) (c : ℕ) (steps : List Step)
         → AreFrom answers (trail_of answers settings (placed settings c steps)).went
@@ -136,9 +137,9 @@ pub fn pieces_of_steps_may_be_cut()
     dns_session::pieces_may_be_cut();
 }
 
-/// Whoever looks after each event that all clients hear, and whoever looks beside it, is sent by the rules for it alone what it is
-/// sent where it hears of each event at once. And where some look then by rising number, all exchanges and connections among them,
-/// all that is sent is what is sent where all hear at once. There are no more events than versions.
+/// Take who looks after each event that all clients hear, and looks beside it too. It is sent, by the rules for it alone, what it
+/// is sent if it hears of each event at once. Let some look then by rising number, all exchanges and connections among them. Then
+/// all that is sent is what is sent if all hear at once. There are no more events than versions.
 pub fn looks_without_delay_change_nothing()
     ensures one { (answers : Serving) (settings : Settings) (cs : List ℕ) (c : ℕ) (es : List Event)
         → list_any (nat_eq c) cs ≡ true → length es ≤ last_version
@@ -149,8 +150,8 @@ pub fn looks_without_delay_change_nothing()
         → outs answers settings (undelayed cs es) ≡ out answers settings es }
 {}
 
-/// A look changes nothing of what others hear. A look of a client that is no exchange and no connection, and one of a client that
-/// has heard of all changes of the server, changes nothing for anybody.
+/// A look changes nothing of what others hear. A look changes nothing for anybody if its client is no exchange and no connection.
+/// So does one of a client that has heard of all changes of the server.
 pub fn idle_looks_change_nothing()
     ensures others { (settings : Settings) (c d at secs : ℕ) (q r : List Step)
         → c ≢ d → placed settings d (q ++ Step.Look at secs c ∷ r) ≡ placed settings d (q ++ r) }

@@ -53,8 +53,8 @@ sought z t name = sought_by name (asked_region z t name)
 abbrev pub HasWildcards : List NsecState → List NsecState → NsecState → List (List ℕ) → Type 0
 HasWildcards ns chosen n name = (m : NsecState) × IsLast ns (shown_wildcard n name) m × Contains chosen m
 
--- Each absence is proved: by the last NSEC that is not behind that name, and where it doesn't exist the last that is not behind the
--- wildcard which that one shows. They may be among others, so that the NSECs of a chain of aliases are those of its names.
+-- Each absence is proved: by the last NSEC that is not after that name, and, if it doesn't exist, the last not after the wildcard
+-- which that one shows. They may be among others, so that the NSECs of a chain of aliases are those of its names.
 abbrev pub EachAbsenceIsProved : Type 0
 EachAbsenceIsProved = (z : ZoneState) (ns chosen : List NsecState) (t : ℕ) (name : List (List ℕ)) (n : NsecState) → IsWhole z ns
     → ends_name name z.apex ≡ true → CanBeDenied z name t

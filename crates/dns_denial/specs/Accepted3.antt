@@ -46,9 +46,9 @@ pub record AreChosen (h : Hashing) (ns chosen : List Nsec3State) (name : List (L
   pub of_chain : (n : Nsec3State) → Contains chosen n → Contains ns n
   pub each : (s : List (List ℕ)) → Contains (hashed_names h ns name) s → (n : Nsec3State) × Contains chosen n × IsNear h ns s n
 
--- What a chain leaves without a proof: a span with Opt-Out may leave out an empty non-terminal (section 7.1), so that a wildcard at the
--- closest provable encloser can't be denied, no type but DS at that name, and no wildcard there tells its closest encloser. Hashes that
--- collide are none of this: then a server must fail (section 7.2.9).
+-- What a chain leaves without a proof: a span with Opt-Out may leave out an empty non-terminal (section 7.1). So a wildcard at the
+-- closest provable encloser can't be denied. At that name no type but DS can, and no wildcard there tells its closest encloser.
+-- Hashes that collide are none of this: then a server must fail (section 7.2.9).
 pub record IsProvable (z : ZoneState) (h : Hashing) (ns : List Nsec3State) (t : ℕ) (name : List (List ℕ)) : Type 0 where
   pub held : exists z name ≡ true → nat_eq t 43 ≡ false → is_matched h ns name ≡ true
   pub closest : exists z name ≡ false → exists z (wildcard z name) ≡ true → (provable h ns name ≡ encloser z name)

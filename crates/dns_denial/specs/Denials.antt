@@ -81,7 +81,7 @@ ProvesNoDs ns cut n = (z : ZoneState) → IsWhole z ns → IsUnsigned z cut → 
 
 -- ---- laws
 
--- what is proved by the last NSEC that is not behind a name, and the last one that is not behind the wildcard which that one shows
+-- what is proved by the last NSEC that is not after a name, and the last one not after the wildcard which that one shows
 abbrev pub NameErrorsAreProved : Type 0
 NameErrorsAreProved = (ns : List NsecState) (name : List (List ℕ)) (n m : NsecState) → IsLast ns name n
     → IsLast ns (shown_wildcard n name) m → ProvesNameError ns name n m

@@ -11,8 +11,8 @@ pub enum ChainError {
     Unlisted(usize),
     /// The place in the chain of the first NSEC whose owner must have none, or that lists a type which the owner doesn't have.
     Unfounded(usize),
-    /// The place in the chain of the first NSEC whose next name isn't the owner of the one behind it, or behind the last one the
-    /// apex.
+    /// The place in the chain of the first NSEC that points elsewhere. Its next name isn't the owner of the NSEC after it, or after
+    /// the last one the apex.
     Unlinked(usize),
     OutOfMemory,
 }

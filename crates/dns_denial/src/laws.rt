@@ -85,8 +85,8 @@ pub fn opted_out_delegations_are_proved3()
     ensures { OptedOutDelegationsAreProved3 }
 {}
 
-/// Whatever a reply says of a name is accepted with the NSEC3s of the names that section 7.2 of RFC 5155 names, where the chain
-/// proves it at all.
+/// Whatever a reply says of a name is accepted with the NSEC3s of the names in section 7.2 of RFC 5155. The chain has to prove it
+/// at all.
 pub fn each_absence_is_proved3()
     ensures { EachAbsenceIsProved3 }
 {}

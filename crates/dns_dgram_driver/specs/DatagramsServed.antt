@@ -127,7 +127,7 @@ pub record ServedBy (answers : Serving) (end : DgramEnd) (count : ℕ) (start no
   pub ends : EndsBy answers end count number first looks events
   pub counted : IsFull count number → end ≡ Counted
 
--- Memory ran out: no more datagrams were received than may come, the Datagrams recorded are the first datagrams received, and what
+-- Memory ran out: no more datagrams were received than may come. The Datagrams recorded are the first datagrams received, and what
 -- was sent is a part of what the events lead to.
 pub record CutOff (answers : Serving) (count : ℕ) (start now : World) : Type 0 where
   pub first : Look

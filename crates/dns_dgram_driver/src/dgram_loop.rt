@@ -6,8 +6,7 @@ use dns_recorder::Waits;
 use dns_service::SharedService;
 use std::alloc::Global;
 
-/// What datagrams are served with, where what is kept of them stands, and how many waits ended in vain since a datagram came or
-/// one was sent.
+/// What datagrams are served with, where what is kept of them stands, and how many waits ended in vain since one came or was sent.
 #[derive(Drop)]
 pub(crate) struct DgramLoop<'a, R, W: SharedService, D, C, J> {
     pub(crate) rt: &'a R,

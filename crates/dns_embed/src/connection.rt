@@ -182,8 +182,8 @@ impl Connection {
         }
     }
 
-    /// Queues the octets of a reply of at most 65,535 as a frame, at a moment in ms, if the queue and the response budget have
-    /// room. It says whether they had. If there is no memory the queue stays.
+    /// Queues the octets of a reply of at most 65,535 as a frame, at a moment in ms. It needs room in the queue and in the response
+    /// budget. It says whether they had. If there is no memory the queue stays.
     pub fn offer(&mut self, alloc: Global, at: u64, reply: &[u8]) -> Result<bool, OutOfMemory>
         requires { length reply.now ≤ 65535 }
         ensures room { IfOk result (λ queued. queued ≡ finds_room (record self.old.invoker { at = at })) }

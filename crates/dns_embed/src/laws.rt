@@ -14,8 +14,8 @@ ghost use Rattle.dns_embed.specs.declared.rule.ReplyRule.{ReplyRule};
 ghost use Rattle.dns_embed.specs.Embedded.{IsDecided, answers, rewrite_by};
 ghost use Rattle.dns_embed.specs.Turned.{GivesAsTurned, GivesHeldAsTurned};
 
-/// Whoever asks a service as was decided, and sends its reply rewritten, sends what these layers answer round a service that
-/// gives this reply to the request as they pass it on.
+/// Ask a service as was decided, and send its reply rewritten. That is what these layers answer round a service that gives this
+/// reply to the request as they pass it on.
 pub fn asked_and_rewritten_is_answered()
     ensures { (s : Settings) (v : Result (Unit {0}) NotifyError) (r : Req (Unit {0})) (rule : ReplyRule) (m : Msg)
         (svc : Req (Unit {0}) → ℕ → Answer) → IsDecided s v r (Ask rule) → ((k : ℕ) → svc (passed s r) k ≡ once (reply m) k)

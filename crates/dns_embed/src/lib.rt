@@ -20,8 +20,8 @@
 //! # What is proved
 //!
 //! - What is decided is what the layers of dns_middleware answer, whatever service stands inside.
-//! - To ask a service as was decided and to send its reply rewritten is to send what the layers answer round a service
-//!   that gives this reply (`asked_and_rewritten_is_answered`).
+//! - To ask a service as was decided and to send its reply rewritten is to answer as the layers do. They stand round a service that
+//!   gives this reply (`asked_and_rewritten_is_answered`).
 //! - A message is ignored exactly if it is shorter than a header or, over a stream or by `decide_message`, a response.
 //! - A connection gives each frame once and in order, and keeps the octets of no whole frame. It queues a reply exactly if
 //!   there is room in queue and budget.

@@ -35,7 +35,7 @@ pub struct Asking {
 impl Asking {
     ghost use Rattle.dns_forward.specs.Askings.{HasHeard, Hears};
 
-    /// A message that is sent under an identifier, at most `tries` times, from 1 to 8, and again where no answer came for
+    /// A message that is sent under an identifier, at most `tries` times, from 1 to 8. It is sent again if no answer came for
     /// `timeout`, from 1, since queries may be lost (RFC 1035, section 4.2.1). It counts as sent at `at`.
     pub fn new(
         alloc: Global,
@@ -135,8 +135,8 @@ impl Asking {
         Ok(Some(with_id(octets, self.asker)))
     }
 
-    /// What is to be done at a moment: to send again where the last send is the timeout ago or more, or where the moment at
-    /// which it would be passes 2^64 - 1; or to give up, where no send is left.
+    /// What is to be done at a moment: to send again if the last send is the timeout ago or more, or if the moment of that would
+    /// pass 2^64 - 1; or to give up, where no send is left.
     pub fn tick(&mut self, at: u64) -> Ticked
         ensures { Hears self.old self.new (AskingEvent.Tick at) (AskingOutcome.OfTick result) }
     {

@@ -20,8 +20,8 @@ use dns_route::{SendError, turn_item};
 use dns_service::{OutOfMemory, Polled, Request, ServiceResult};
 use std::alloc::Global;
 
-/// The layers with a cache behind them: what they pass on is answered out of the cache where that has a young reply for it, and
-/// the replies that are made of answers are kept.
+/// The layers with a cache behind them: what they pass on is answered out of the cache if that has a young reply for it. The
+/// replies that are made of answers are kept.
 #[derive(Drop)]
 pub struct CachedFront {
     pub(crate) front: LayeredFront,

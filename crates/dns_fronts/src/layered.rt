@@ -26,8 +26,8 @@ use dns_service::{
 use std::alloc::Global;
 
 /// The layers of some settings, and the networks whose clients need a good cookie over UDP. A NOTIFY is answered NOTAUTH, since a
-/// proxy is a secondary of no zone. A request that is passed on is sent on without its OPT record, or with one of our own that keeps
-/// the DO bit and client subnets. One that can't be read is answered by SERVFAIL.
+/// proxy is a secondary of no zone. A request that is passed on goes without its OPT record, or with one of our own that keeps the
+/// DO bit and client subnets. One that can't be read is answered by SERVFAIL.
 #[derive(Drop)]
 pub struct LayeredFront {
     pub(crate) settings: Settings,

@@ -3,8 +3,8 @@
 //!
 //! - `LayeredFront` is the layers of some settings. A NOTIFY is answered NOTAUTH, since a proxy is a secondary of no
 //!   zone. Clients of a `Network` that is required to have cookies are denied service over UDP without a good one.
-//! - `CachedFront` is the layers with a cache behind them. What they pass on is answered out of the cache if that has a
-//!   young reply, and the replies that are made of answers are kept.
+//! - `CachedFront` is the layers with a cache behind them. What they pass on is answered out of the cache if that has a young
+//!   reply. The replies that are made of answers are kept.
 //!
 //! Both are a `Front` of dns_proxy, whose `Taken` says how a request is taken.
 //!
@@ -19,13 +19,13 @@
 //!
 //! # What is proved
 //!
-//! - A request is answered, and leaves the hint, as in the layers over a service that gives what the upstream
-//!   answered, whatever that is (`layered`, `cached_over`).
-//! - No upstream is asked for what the layers answer themselves (a refused cookie, a NOTIFY), for what can't be read or
-//!   sent, nor where a young reply is in the cache (`asked_message`, `cached_asks`).
+//! - A request is answered, and leaves the hint, as in the layers over a service that gives whatever the upstream answered
+//!   (`layered`, `cached_over`).
+//! - No upstream is asked for what the layers answer themselves (a refused cookie, a NOTIFY), nor for what can't be read or sent.
+//!   Nor is one if a young reply is in the cache (`asked_message`, `cached_asks`).
 //! - A client of a required network is taken as one whose address is denied service without a good cookie (`settings_for`).
-//! - The cache is asked only for requests that the layers pass on, and keeps a reply under the seconds at which its
-//!   query came (`cache_taken`, `cache_given`).
+//! - The cache is asked only for requests that the layers pass on. It keeps a reply under the seconds at which its query came
+//!   (`cache_taken`, `cache_given`).
 //!
 //! # What a body could still get away with
 //!

@@ -39,7 +39,7 @@ abbrev pub timers_among : List Record → Option SoaTimers
 timers_among [] = None
 timers_among (r ∷ rs) = first_or (timers_of r.rdata) (timers_among rs)
 
--- a generation: what answers, the apexes of the zones that are served and of those that have no data, and a summary of each zone in
+-- a generation: what answers, the apexes of the zones that are served and of those without data, and a summary of each zone in
 -- their order
 pub record GenerationState : Type 0 where
   pub authority : AuthorityState

@@ -65,7 +65,7 @@ abbrev pub messages_taken : IncomingState → List (List ℕ) → IncomingState
 messages_taken s [] = s
 messages_taken s (o ∷ os) = messages_taken (taken_message s o) os
 
--- the octets of the reply that has a bunch of records, and those of all replies of a transfer that is asked for by a query's octets
+-- the octets of the reply that has a bunch of records, and those of all replies of a transfer that a query's octets ask for
 abbrev pub reply_octets : List ℕ → List ResourceRecord → List ℕ
 reply_octets o b = wire (transfer_message o b)
 

@@ -73,8 +73,8 @@ fn is_good(secret: &[u8; 16], address: IpAddr, now: Serial, cookie: &Cookie) -> 
     cookie.check_server_hash(address, secret, |timestamp| timestamp_ok(timestamp, now))
 }
 
-/// What the layer answers by itself, by how the cookie is taken, whether the request has no question, and whether it is a
-/// datagram from an address that is denied.
+/// What the layer answers by itself. It depends on how the cookie is taken, and whether the request has no question. It depends on
+/// whether it is a datagram from a denied address.
 fn own_answer(verdict: CookieVerdict, unasked: bool, denied: bool) -> Option<CookieAnswer>
     ensures { result ≡ own_answer verdict unasked denied }
 {

@@ -14,8 +14,8 @@
 //!
 //! # What is proved
 //!
-//! - A layer's answer to poll k is a stated function of the answers of the service inside, and so is the hint that it
-//!   leaves (`mandatory`, `edns`, `cookies`, `notify`). So a layer that refuses nothing, or everything, isn't proved.
+//! - A layer's answer to poll k is a stated function of the answers of the service inside. So is the hint that it leaves
+//!   (`mandatory`, `edns`, `cookies`, `notify`). So a layer that refuses nothing, or everything, isn't proved.
 //! - A reply of the mandatory layer over UDP has at most as many octets as the hint that the service inside left. At
 //!   least 512 are allowed (`replies_fit`).
 //! - A rule for replies is made at the call and is a function from message to message (`edns_by`, `mand_by`). It

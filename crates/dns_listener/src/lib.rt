@@ -3,8 +3,8 @@
 //! - `Listener` has the sockets of an address: one for connections, and one for datagrams for each worker. `bind_all` opens
 //!   those of a configuration, and `say_listeners` says where is listened.
 //! - `Offer` is what is served: the zones, by settings, with the target of NOTIFY and the identifier of the server.
-//! - `Running` is a listener that serves an offer in a thread. `has_ended` says whether one has ended by itself, `close_all`
-//!   shuts them down, and `take_back` gives the listeners back, whose sockets stay open for what is served next.
+//! - `Running` is a listener that serves an offer in a thread. `has_ended` says whether one has ended by itself, and `close_all`
+//!   shuts them down. `take_back` gives the listeners back, whose sockets stay open for what is served next.
 //! - `Counters` are what is counted at all listeners. `log_transfers` logs what was noted of transfers.
 //!
 //! ```text

@@ -46,8 +46,8 @@ fn copied(alloc: Global, message: &Message) -> Result<Message, OutOfMemory>
     Ok(Message::of(Vec::from_slice(alloc, octets)?))
 }
 
-/// Begins to look up a message at an upstream under an identifier, which its owner picks at random, and gives the octets that
-/// the upstream is sent first.
+/// Begins to look up a message at an upstream under an identifier, which its owner picks at random. It gives the octets that the
+/// upstream is sent first.
 pub fn begin_lookup(
     alloc: Global,
     upstream: UpstreamConfig,

@@ -4,8 +4,8 @@ use dns_base::Message;
 use dns_name::{Octets, SocketAddr};
 use dns_route::SendError;
 
-/// An upstream: its address, how often it is sent a message in datagrams at most, from 1 to 8, and after what time without an
-/// answer again, from 1.
+/// An upstream: its address, and how often it is sent a message in datagrams at most, from 1 to 8. It is sent again after so long
+/// without an answer, from 1.
 #[derive(Clone, Copy, Debug)]
 pub struct UpstreamConfig {
     pub addr: SocketAddr,

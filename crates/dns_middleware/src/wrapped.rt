@@ -110,8 +110,8 @@ where
     Ok(wrapped)
 }
 
-/// The service in its layers answers as the mandatory layer over EDNS over cookies over NOTIFY over the given service does,
-/// and leaves the same hint.
+/// The service in its layers answers as the mandatory layer over EDNS over cookies over NOTIFY over the given service does. It
+/// leaves the same hint.
 pub fn wrapped_is_nested()
     ensures replies { RepliesAreNested }
     ensures hint { HintIsNested }

@@ -1,5 +1,5 @@
--- The canonical order of names (RFC 4034, section 6.1): labels are compared from the last to the first, each as
--- octets with ASCII letters in lower case, and a name without a label comes before those with one there.
+-- The canonical order of names (RFC 4034, section 6.1): labels are compared from the last to the first, each as octets with ASCII
+-- letters in lower case. A name without a label comes before those with one there.
 use Rattle.std.specs.Prelude.{ℕ, ◌≡◌, ◌==◌, Bool, true, List, map, reverse}
 use Rattle.std.specs.declared.cmp.Ordering.{Ordering}
 use Rattle.std.specs.Bool.{Decides}

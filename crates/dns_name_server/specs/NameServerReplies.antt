@@ -1,5 +1,5 @@
--- The reply of a name server to a question for a name of a zone (RFC 1034, section 4.3.2), with wildcards (RFC 4592), DNAME (RFC 6672)
--- and the negative answers of RFC 2308 behind aliases too (RFC 6604).
+-- The reply of a name server to a question for a name of a zone (RFC 1034, section 4.3.2). It has wildcards (RFC 4592), DNAME (RFC
+-- 6672) and the negative answers of RFC 2308, after aliases too (RFC 6604).
 use Rattle.std.specs.Prelude.{ℕ, zero, suc, ◌-◌, Bool, true, ◌&&◌, not, List, [], ◌∷◌, ◌++◌, length, take, if◌then◌else◌, Option, Some, None}
 use Rattle.std.specs.List.{list_any}
 use Rattle.dns_name.specs.Canonical.{same_name}

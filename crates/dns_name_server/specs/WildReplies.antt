@@ -1,4 +1,5 @@
--- The reply of a zone with wildcards (RFC 4592), as far as it is that of a single service, and where it is the reply of a name server.
+-- The reply of a zone with wildcards (RFC 4592), as far as it is that of a single service. It says when that is the reply of a name
+-- server.
 use Rattle.std.specs.Prelude.{ℕ, zero, suc, ◌≡◌, Bool, true, false, ◌&&◌, List, ◌∷◌, nat_eq, if◌then◌else◌}
 use Rattle.std.specs.List.{AllByRecursion, list_any}
 use Rattle.std.specs.Str.{bytes_eq}

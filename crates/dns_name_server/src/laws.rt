@@ -20,8 +20,8 @@ pub fn existing_names_are_their_own()
     ensures { ExistingNamesAreTheirOwn }
 {}
 
-/// Where no alias and no DNAME is in the way and the type isn't DS, the reply of a name server is that of a zone with
-/// wildcards, and where no wildcard exists that of a zone.
+/// Let no alias and no DNAME be in the way, and the type not be DS. Then the reply of a name server is that of a zone with
+/// wildcards. If no wildcard exists it is that of a zone.
 pub fn direct_replies_are_the_zones()
     ensures wild { DirectRepliesAreWild }
     ensures zone { DirectRepliesAreTheZones }

@@ -21,8 +21,8 @@
 //!
 //! - What is built is the message of `name_server_reply`, section for section, which is stated over the list of
 //!   records alone.
-//! - Where no alias and no DNAME record is in the way and the type isn't DS, the reply is `wild_reply`, and where no
-//!   wildcard exists that of a zone, `zone_reply` (`direct_replies_are_the_zones`).
+//! - If no alias and no DNAME record is in the way and the type isn't DS, the reply is `wild_reply`. If no wildcard exists it is
+//!   that of a zone, `zone_reply` (`direct_replies_are_the_zones`).
 //! - Where no wildcard exists, `wild_reply` is `zone_reply` (`wildcards_alone`). None exists where no label of an owner
 //!   is `*` (`wildcards_are_stars`).
 //! - A name that exists never has the records of a wildcard (`existing_names_are_their_own`; RFC 4592, section 2.2.1).

@@ -13,8 +13,8 @@
 //!
 //! # What is proved
 //!
-//! - Types are read exactly where the octets are window blocks whose numbers rise, each with a bitmap of 1 to 32 octets of
-//!   which the last isn't 0 (RFC 4034, section 4.1.2). They are exactly those whose bit is set. No octets list no type.
+//! - Types are read exactly if the octets are window blocks whose numbers rise. Each has a bitmap of 1 to 32 octets of which the
+//!   last isn't 0 (RFC 4034, section 4.1.2). They are exactly those whose bit is set. No octets list no type.
 //! - The `Nsec` of a record has the record's owner, the uncompressed name at which its data begins, and the types behind
 //!   that.
 //! - Of a list each NSEC record is read and no other one. A refused record is the first that isn't an NSEC.

@@ -11,8 +11,8 @@ pub fn push_adds_one_pair()
         → options (o ++ option_octets c d) ≡ Some (ps ++ (c, d) ∷ []) }
 {}
 
-/// Octets are a list of certain options exactly where they are these options, one behind another, and an option list
-/// exactly where there are such options.
+/// Octets are a list of certain options exactly if they are these options, one after another. They are an option list exactly if
+/// there are such options.
 pub fn lists_are_joined_options()
     ensures options { (o : List ℕ) (ps : List (ℕ × List ℕ)) → All (λ x. x < 256) o → (options o ≡ Some ps) ↔ (o ≡ options_octets ps) }
     ensures list { (o : List ℕ) → All (λ x. x < 256) o → IsOptionList o ↔ ((ps : List (ℕ × List ℕ)) × (o ≡ options_octets ps)) }

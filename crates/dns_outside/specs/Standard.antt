@@ -1,4 +1,4 @@
--- What the adapters over a reader and a writer of std answer, where std knows the octets that a reader has left and a writer holds.
+-- What the adapters over a reader and a writer of std answer. Std has to know the octets that a reader has left and a writer holds.
 use Rattle.std.specs.Prelude.{ℕ, List, Option, take}
 use Rattle.std.specs.Io.KnownBytes.{Keeps, Consumes, Appends, IsAtEnd}
 use Rattle.dns_io.specs.declared.source.SourceRead.{SourceRead}

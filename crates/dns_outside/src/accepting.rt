@@ -28,8 +28,8 @@ pub(crate) fn accept_without_waiting(
     }
 }
 
-/// The address that C's `sockaddr_in` or `sockaddr_in6` holds: the family in two octets of the machine's order, the port in two
-/// of the network's, then an IPv4 address, or four octets and an IPv6 address.
+/// The address that C's `sockaddr_in` or `sockaddr_in6` holds: the family in two octets of the machine's order and the port in two
+/// of the network's. Then an IPv4 address, or four octets and an IPv6 address.
 fn address_in(raw: &[u8; c::_SS_SIZE]) -> Option<SocketAddr> {
     let family = i32::from(u16::from_ne_bytes([raw[0], raw[1]]));
     let port = u16::from_be_bytes([raw[2], raw[3]]);

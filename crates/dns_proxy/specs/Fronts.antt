@@ -8,7 +8,7 @@ use Rattle.dns_service.specs.Req.{Req}
 use Rattle.dns_proxy.specs.declared.front.Taken.{Taken}
 use Rattle.dns_proxy.specs.declared.front.Taken.TheVariants.{Own, Passed}
 
--- what is answered to each poll of a request where this item is given for it, the hint that is left, and the message that an upstream
+-- what is answered to each poll of a request if this item is given for it; the hint that is left; and the message that an upstream
 -- is asked, if one is
 pub record Fronting : Type 0 where
   pub over : Item → Req (Unit {0}) → ℕ → Answer

@@ -67,8 +67,8 @@ module _ {R : Type 0} (rewriting : R → Msg → Msg) where
     GoesAt (Some a) e t p = GoesBy given (with_event a e) (StandsAt p (Some (with_event a e))) (StandsAt p None) (outcome_after a e) t
 
     module _ {F : Type 0} (after_give : F → List ℕ → ℕ → Result (List ℕ) SendError → F) where
-      -- a query whose upstream is sent these octets takes a place that was free, and no other changes; or, where none is free, its
-      -- client is sent what it is where no upstream can be reached, or, where it is to wait, nothing is kept of it
+      -- a query whose upstream is sent these octets takes a place that was free, and no other changes; or, if none is free, its
+      -- client is sent what it is sent if no upstream can be reached; or, if it is to wait, nothing is kept of it
       abbrev pub Enters : ℕ → WhenFull → Asked → List ℕ → F → List (Option (Query R)) → Started → F → List (Option (Query R)) → Type 0
       Enters bound when a octets front before (Sent o) new after = (when ≡ Fail) × IsFull bound before × IsSame before after
           × (outputs_to a.came o ≡ sent_for given a.front a.dgram a.came (Ready (Err Unreachable)))

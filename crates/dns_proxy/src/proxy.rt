@@ -205,9 +205,9 @@ impl<F: Front> Proxy<F> {
         }
     }
 
-    /// Starts with a client's message, for which an upstream is asked under an identifier, which is to be picked at random,
-    /// where it makes a request that is passed on. Where there is no room for one query more, its client is answered as where
-    /// no upstream can be reached, or it is to wait, as is said. There are never more places than there may be queries.
+    /// Starts with a client's message. If it makes a request that is passed on, an upstream is asked for it under an identifier,
+    /// which is to be picked at random. If there is no room for one query more, its client is answered as if no upstream could be
+    /// reached. Or it is to wait, as is said. There are never more places than there may be queries.
     pub fn begin(
         &mut self,
         alloc: Global,

@@ -1,5 +1,5 @@
-//! Response rate limiting: how much of what is to be sent to a client network over UDP is sent, so that a server isn't used
-//! to flood others from forged addresses.
+//! Response rate limiting: how much of what is to be sent to a client network over UDP is sent. So a server isn't used to flood
+//! others from forged addresses.
 //!
 //! - `Rate` says how many responses a second a client gets whole, and how many of the others are sent truncated.
 //! - `Account` counts the responses of one client, and `Limiter` keeps the accounts of many in a table of bounded size.
@@ -16,7 +16,7 @@
 //! # What is proved
 //!
 //! - What is done with a response to a client is a function of the seconds of the client's own requests
-//!   (`clients_are_limited_by_their_own`), of the last ones that its account still counts.
+//!   (`clients_are_limited_by_their_own`). These are the last ones that its account still counts.
 //! - A client that stays below its rate is sent each response whole, whatever others ask and whatever left the table
 //!   (`networks_below_their_rate`).
 //! - In one second no more responses are sent whole than the rate says (`limits_hold`).

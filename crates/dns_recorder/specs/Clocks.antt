@@ -49,7 +49,7 @@ faults_in [] = 0
 faults_in (e ∷ es) = fault_count e.kind + faults_in es
 
 -- Of the events from n to n' each carries one of the readings from c to c'. There is one reading for each event, one more for each
--- Write and each Fault, and one for each write that answered Again, of which there were again before and again' after; no more.
+-- Write and each Fault, and one for each write that answered Again. Of these there were again before and again' after; no more.
 pub record Timed (n n' : List Event) (again again' : ℕ) (c c' : List ClockReading) : Type 0 where
   pub events : List Event
   pub readings : List ClockReading

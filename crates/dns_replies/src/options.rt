@@ -11,8 +11,8 @@ use dns_name::{BuildDataError, ComposeOptData, OutOfMemory, Rtype};
 use dns_opt::{BuildOpt, OptBuilder};
 use std::alloc::Global;
 
-/// Builds on a reply's OPT record, as `BuildOpt::reopen` does: the closure is lent the record with its size, codes,
-/// flags and options, or an empty one, and what it leaves becomes the reply's only OPT record.
+/// Builds on a reply's OPT record, as `BuildOpt::reopen` does: the closure is lent the record with its size, codes, flags and
+/// options, or an empty one. What it leaves becomes the reply's only OPT record.
 pub fn add_edns_options<F: FnOnce(&mut OptBuilder) -> Result<(), BuildDataError>>(
     alloc: Global,
     response: &mut AdditionalBuilder,

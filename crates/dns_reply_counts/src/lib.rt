@@ -10,8 +10,8 @@
 //! One `Arc` of the counts is given to the layer, and another to whoever reads them: a control channel, a log, or a page of
 //! metrics.
 //!
-//! An error item of a service has no reply and isn't counted, so the layer stands round `wrap` of dns_middleware, or round
-//! a layer that stands round it.
+//! An error item of a service has no reply and isn't counted. So the layer stands round `wrap` of dns_middleware, or round a layer
+//! that stands round it.
 //!
 //! # What is proved
 //!

@@ -10,9 +10,9 @@
 //! request -> the service inside -> reply with OPT -> the option behind the others -> cut to the size that is allowed
 //! ```
 //!
-//! They stand round `wrap` of dns_middleware. Its EDNS layer gives each reply an OPT record if the request has one, and its
-//! cookie layer gives its own replies a cookie, which stays. Over UDP each reply is cut to the hint that the service inside
-//! leaves, which is what client and server allow.
+//! They stand round `wrap` of dns_middleware. Its EDNS layer gives each reply an OPT record if the request has one. Its cookie
+//! layer gives its own replies a cookie, which stays. Over UDP each reply is cut to the hint that the service inside leaves, which
+//! is what client and server allow.
 //!
 //! # What is proved
 //!

@@ -2,8 +2,8 @@
 //!
 //! - `RewrittenFuture` and `RewrittenStream` are future and stream of the service inside, with a rule or none. Each reply is
 //!   rewritten by the rule, where there is one.
-//! - `call_rewritten` calls the service inside. The rule is made of what was found in the request before the call, and of how
-//!   many octets a reply may take by the hint that the request has after it.
+//! - `call_rewritten` calls the service inside. The rule is made of what was found in the request before the call, and of how many
+//!   octets a reply may take. That is by the hint that the request has after it.
 //! - `RuleOf` makes such a rule.
 //!
 //! ```text

@@ -36,8 +36,8 @@ pub fn typed_messages_are_copied()
     typed_records_read_back();
 }
 
-/// What is built of a reply that is a message of one's own, whose records have typed data and whose additional section has no
-/// OPT record, is that message.
+/// Take a reply that is a message of one's own, whose records have typed data and whose additional section has no OPT record. What
+/// is built of it is that message.
 pub fn typed_replies_are_built()
     ensures { (m : Msg) → IsMessage m → IsTypedMessage m → reply_message (kept_whole m) ≡ Ok m }
 {

@@ -17,8 +17,8 @@ use dns_service::{
 use std::alloc::Global;
 use std::sync::Arc;
 
-/// A single service as a service: it is pending as the turns are, gives one item and ends. The item is InternalError
-/// where a turn gave an error, where the reply couldn't be built, and where the turn of the last number was pending.
+/// A single service as a service: it is pending as the turns are, gives one item and ends. The item is InternalError if a turn gave
+/// an error or the reply couldn't be built. So it is if the turn of the last number was pending.
 #[derive(Drop)]
 pub struct SingleServiceToService<S> {
     service: Arc<S>,

@@ -1,6 +1,6 @@
--- What a run answers, by what was read and written. In each, a and b are what is left of the source before and after the call,
--- and c and d what the sink has taken before and after it; where tells, left and taken stand before them, they are the source and
--- the sink themselves.
+-- What a run answers, by what was read and written. In each, a and b are what is left of the source before and after the call. What
+-- the sink has taken before and after it are c and d; where tells, left and taken stand before them, they are the source and the
+-- sink themselves.
 use Rattle.std.specs.Prelude.{◌≡◌, ℕ, ◌+◌, ◌≤◌, List, [], ◌++◌, length, Result, Ok, Err, IsOk, IsErr}
 use Rattle.dns_io.specs.Causes.{Observed}
 use Rattle.dns_io.specs.Moves.{ReadExactly, ReadAtMost, Cut}

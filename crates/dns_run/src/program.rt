@@ -53,8 +53,8 @@ fn answer_flood<W: Sink>(alloc: Global, sink: &mut W, seed: u64, count: u32) -> 
     Status::Done.after(write_flood(alloc, sink, seed, count))
 }
 
-/// Does what the words ask for. Nothing but the lines of outputs, of a script and of a cache's answers, the line of a refusal and
-/// that of a flood is written.
+/// Does what the words ask for. Nothing is written but the lines of outputs, of a script and of a cache's answers, a refusal's line
+/// and that of a flood.
 #[tactic(auto, using(crate::proofs::Running::replay_completes, crate::proofs::Running::flood_completes))]
 pub fn run<R: Source, W: Sink>(
     alloc: Global,

@@ -1,4 +1,4 @@
--- What a script says: the settings of the server, where it sets one, its service, the rules of its target, and its events, or its
+-- What a script says: the settings of the server, if it sets one, its service, and the rules of its target. Then its events, or its
 -- steps, each in the order of their lines.
 use Rattle.std.specs.Prelude.{◌==◌, List, [], length, Result}
 use Rattle.dns_events.specs.declared.settings.Settings.{Settings}

@@ -1,9 +1,9 @@
--- The grammar of a script, line by line: the settings and the lines of the service and of the target stand before the first event,
--- which is a step where looks are read too.
--- A line is refused for the first of these reasons that fits: it has an octet that is no character; its first word is that of no
--- line; it stands behind an event, and may not, or is a record before its zone; it is a service line of another kind than the first;
--- it stands twice, and may not; it has too few words or too many; a word spells no value. Each definition goes through them in this
--- order. Where no line is refused, the records of a zone may still be refused, at the line of the zone.
+-- The grammar of a script, line by line: the settings and the lines of the service and of the target stand before the first event.
+-- That is a step if looks are read too. A line is refused for the first of these reasons that fits: it has an octet that is no
+-- character; its first word is that of no line; it stands behind an event, and may not, or is a record before its zone; it is a
+-- service line of another kind than the first; it stands twice, and may not; it has too few words or too many; a word spells no
+-- value. Each definition goes through them in this order. Where no line is refused, the records of a zone may still be refused, at
+-- the line of the zone.
 use Rattle.std.specs.Prelude.{ℕ, ◌+◌, ◌-◌, ◌==◌, nat_le, Bool, true, Option, Some, None, List, [], ◌∷◌, ◌++◌, length, take, drop, Result, Ok, Err, codes, if◌then◌else◌}
 use Rattle.std.specs.List.{list_all}
 use Rattle.std.specs.Str.{bytes_eq}

@@ -47,9 +47,9 @@ impl CachedRules {
         Ok(CachedRules { turns, cache })
     }
 
-    /// Asks a question, from call 0 on until one is ready, and gives the line: `answer HEX`, `error formerr`,
-    /// `error servfail`, `error notimp`, `error refused`, or `pending` after 1,000 calls. After want of memory the rules are
-    /// as before, and the cache is as those of the calls leave it that had memory, so the reply may be kept.
+    /// Asks a question, from call 0 on until one is ready, and gives the line: `answer HEX`, `error formerr`, `error servfail`,
+    /// `error notimp`, `error refused`, or `pending` after 1,000 calls. After want of memory the rules are as before, and the cache
+    /// is as those of the calls leave it that had memory. So the reply may be kept.
     pub fn ask(&mut self, alloc: Global, ask: Ask) -> Result<String, OutOfMemory>
         ensures line { IfOk result (λ t. string_bytes t ≡ (asked_state self.old ask).line) }
         ensures cached { OnOk result (self.new ≡ record self.old { cached = (asked_state self.old ask).behind }) }

@@ -56,7 +56,7 @@ impl ScriptLine for Step {
     }
 }
 
-/// Nothing: a script of a running server has settings and rules alone, and each other line is refused as one of no such name, those of
+/// Nothing: a script of a running server has settings and rules alone. Each other line is refused as one of no such name, those of
 /// upstreams and of a zone too.
 #[derive(Drop)]
 pub enum NoEvent {}

@@ -56,11 +56,11 @@ fn whole_text(
     Ok(text.into_vec())
 }
 
-/// The text of a script: a line for each setting, also where that is the default one, then the lines of the service, of the
-/// target and of the events, each in their order. Words are parted by one space, numbers are in decimal without leading zeros,
-/// and digits of octets in lower case. Of a script that was read it is a script again (`a_script_reads_back`). Of one that calls
-/// made it need not be: a feedback without an idle timeout, a size above that of a script or a name with other characters is
-/// written as it stands, and may be refused by `read_script`.
+/// The text of a script: a line for each setting, even if it is the default one. Then the lines of the service, the target and the
+/// events, each in their order. Words are parted by one space, numbers are in decimal without leading zeros, and digits of octets
+/// in lower case. Of a script that was read it is a script again (`a_script_reads_back`). Of one that calls made it need not be: a
+/// feedback without an idle timeout, a size above that of a script or a name with other characters is written as it stands.
+/// `read_script` may refuse it.
 #[tactic(auto, unfolding(crate::specs::ScriptText::script_text))]
 pub fn script_text(alloc: Global, script: Script<Event>) -> Result<Vec<u8>, OutOfMemory>
     ensures { IfOk result (λ v. v.items ≡ script_text script) }

@@ -4,8 +4,8 @@ ghost use Rattle.dns_sent_transfer.specs.SentTransfers.{TransactionsLoseNothing,
 
 use dns_core::replies_keep_their_order;
 
-/// Of a request of an open connection whose replies are all in a transaction, all were sent, in order, once it was polled for them,
-/// holds none, and nothing waits in the queue.
+/// Take a request of an open connection whose replies are all in a transaction. Once it was polled for them, holds none, and
+/// nothing waits in the queue, all were sent, in order.
 pub fn transactions_lose_nothing()
     ensures { TransactionsLoseNothing }
 {

@@ -17,9 +17,9 @@ use Rattle.dns_trace.specs.Traced.{traced}
 abbrev pub frames_for : Serving → Settings → ℕ → List Event → List ℕ
 frames_for answers settings client es = frame_octets (filter (is_for client) (out answers settings es))
 
--- A text is the trace of these settings and of events, and reads back to them. What the link was written are the frames that the client
--- is sent for the events, and where a write failed or took too long perhaps a part of one frame more, which stood first in its queue
--- before the last of them.
+-- A text is the trace of these settings and of events, and reads back to them. What the link was written are the frames that the
+-- client is sent for the events. If a write failed or took too long, a part of one frame more may follow. It stood first in its
+-- queue before the last of them.
 pub record Replays (answers : Serving) (settings : Settings) (client : ℕ) (why : Why) (text : List ℕ) (t t' : Traffic) : Type 0 where
   pub events : List Event
   pub extra : List ℕ

@@ -15,9 +15,9 @@ ghost use Rattle.dns_events.specs.declared.event.Why.{Why};
 ghost use Rattle.dns_events.specs.declared.settings.Settings.{Settings};
 ghost use Rattle.dns_trace.specs.InRange.{IsSettings};
 
-/// The trace of a connection replays. Where the recorder was made from settings with the configurations of the first look, and the
-/// connection was closed, the text reads to these settings and to events for which its client, served under these settings, is sent
-/// the frames that the link was written, up to a part of one frame more after a write that failed or took too long.
+/// The trace of a connection replays. The recorder was made from settings with the configurations of the first look, and the
+/// connection was closed. Then the text reads to these settings and to events. For these its client, served under these settings,
+/// is sent the frames that the link was written. A part of one frame more may follow after a write that failed or took too long.
 pub fn a_connection_replays()
     ensures { (answers : Serving) (settings : Settings) (why : Why) (client : ℕ) (addr : SocketAddr) (look : Look) (text : List ℕ)
         (noted : List Event) (k k' : Known) (t t' : Traffic)

@@ -35,8 +35,8 @@ use std::alloc::Global;
 use std::sync::{Arc, Wait};
 use std::thread::Threads;
 
-/// Serves as `serve_host` does, over witnesses of any accept object, socket, clock and spawner. What is promised where these tell holds
-/// of what their calls answered, so what is sent to each client are the frames and datagrams of the rules.
+/// Serves as `serve_host` does, over witnesses of any accept object, socket, clock and spawner. What is promised if these tell
+/// holds of what their calls answered. So what is sent to each client are the frames and datagrams of the rules.
 pub fn serve_host_over<
     R: Threads + Wait + Copy + Send + Sync + 'static,
     A: AsyncAccept,
@@ -77,8 +77,8 @@ where
     )
 }
 
-/// Serves as `serve_workers` does, over witnesses of any accept object, sockets, clocks and spawner. What is promised where these tell
-/// holds of what their calls answered, so what is sent to each client are the frames and datagrams of the rules.
+/// Serves as `serve_workers` does, over witnesses of any accept object, sockets, clocks and spawner. What is promised if these tell
+/// holds of what their calls answered. So what is sent to each client are the frames and datagrams of the rules.
 pub fn serve_workers_over<
     R: Threads + Wait + Copy + Send + Sync + 'static,
     A: AsyncAccept,

@@ -1,4 +1,4 @@
--- A connection: it is opened, takes the frames of its octets as requests, writes its queue, may be idle for some time, and is
+-- A connection: it is opened, takes the frames of its octets as requests, writes its queue, and may be idle for some time. It is
 -- closed, at once or once its queue was written (RFC 7766).
 use Rattle.std.specs.Prelude.{ℕ, ◌+◌, ◌∷◌, ◌++◌, List, [], length, drop, nat_lt, if◌then◌else◌, Bool, true, not, ◌&&◌}
 use Rattle.std.specs.List.{list_any}

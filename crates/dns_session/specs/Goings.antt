@@ -95,8 +95,8 @@ module _ {R F : Type 0} (answer : PolledRequest F R → ℕ → Answer) (answers
   Exchanges number old new outs after = (s : Slate) → IsExchange answer answers number old s
       → (outs ≡ (after s).1) × IsExchange answer answers number new (after s).0
 
-  -- whatever the number of an exchange: what is kept of it, and the octets that its client is sent, as it begins by a datagram that was
-  -- cut, and by a Turn of its one request
+  -- whatever the number of an exchange: what is kept of it, and the octets that its client is sent. It begins by a datagram that
+  -- was cut, and goes on by a Turn of its one request
   abbrev pub BeginsAs : SocketAddr → ℕ → ℕ → Dgram → List ℕ → Option (KeptRequest F R) → Option (List ℕ) → Type 0
   BeginsAs addr at secs dgram o new octets = (number : ℕ) (s : Slate) → IsUnused s → s.conf.dgram ≡ dgram
       → (datagrams_to number octets ≡ at_once number s.conf.dgram o)

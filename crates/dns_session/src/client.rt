@@ -67,9 +67,8 @@ fn sole_number<F, R>(unfinished: &Option<KeptRequest<F, R>>) -> Option<u64>
 impl<W: SharedService> ClientCore<W> {
     ghost use Rattle.dns_session.specs.Stands.{Stands, GoesAs, IsLost, state_is_spent, is_freed, is_closed, waiting, write_limit};
 
-    /// An exchange by its datagram, at a moment in ms and seconds and by a look that shows no shutdown, and what the client is
-    /// sent for it. What is longer than 1,024 octets is cut. Below 12 octets no request is made, and a response is refused at
-    /// once.
+    /// An exchange by its datagram, at a moment in ms and seconds and by a look without a shutdown, and what the client is sent.
+    /// What is longer than 1,024 octets is cut. Below 12 octets no request is made, and a response is refused at once.
     pub fn datagram(
         alloc: Global,
         service: &W,

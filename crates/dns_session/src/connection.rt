@@ -30,8 +30,8 @@ use dns_framing::{ConnectionInvoker, Framer, IdleTimer, Request, SharedService, 
 use dns_name::{OptRcode, OutOfMemory};
 use std::alloc::Global;
 
-/// What is kept of a connection while it is open: its address, how long a write may take in ms, its timer, the octets in no
-/// frame yet, its requests that aren't done, how many are in a transaction, and its queue.
+/// What is kept of a connection while it is open: its address, how long a write may take in ms, its timer and the octets in no
+/// frame yet. Then its requests that aren't done, how many are in a transaction, and its queue.
 #[derive(Drop)]
 pub struct OpenConnection<W: SharedService> {
     addr: SocketAddr,

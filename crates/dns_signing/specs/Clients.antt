@@ -13,7 +13,7 @@ use Rattle.dns_tsig.specs.Verified.{Verifies}
 use Rattle.dns_signing.specs.Room.{tsig_size}
 use Rattle.dns_signing.specs.SignedReplies.{SignerParts, code_of, signed_message, signed_replies, stamped}
 
--- the room for a reply has the header and an OPT record at least, and with its TSIG the reply is no longer than a message may be
+-- the room for a reply has the header and an OPT record at least. With its TSIG the reply is no longer than a message may be
 pub record HasRoom (p : SignerParts) : Type 0 where
   pub least : 23 ≤ p.room
   pub most : p.room + tsig_size p.key ≤ 65535

@@ -54,7 +54,7 @@ with_tsig_signed p k e = and_signed p k e (not_auth p (size_with k (other_octets
 abbrev pub unknown_reply : RefusalParts → Msg
 unknown_reply p = unsigned_reply p BadKey
 
--- by the error: a wrong MAC is answered unsigned, a wrong time and a MAC that is too short are answered signed, and a MAC of no
+-- by the error: a wrong MAC is answered unsigned. A wrong time and a MAC that is too short are answered signed, and a MAC of no
 -- lawful size is answered FORMERR
 abbrev pub refusal_reply : RefusalParts → KeyParts → TsigError → Msg
 refusal_reply p k FormErr = error_within p.size p.octets 1

@@ -18,8 +18,8 @@ use Rattle.dns_tsig.specs.Sending.{code_behind}
 use Rattle.dns_tsig.specs.Streams.{chain_at}
 use Rattle.dns_signing.specs.ErrorResponse.{error_response}
 
--- what signs: a key, a stamp, how many octets a reply may have before its TSIG, the MAC before, whether a reply was signed already,
--- the octets of the request, and whether its service has failed
+-- what signs: a key, a stamp, how many octets a reply may have before its TSIG, and the MAC before. Then whether a reply was signed
+-- already, the octets of the request, and whether its service has failed
 pub record SignerParts : Type 0 where
   pub key : KeyParts
   pub stamp : Stamp

@@ -52,7 +52,7 @@ pub fn signed_replies_verify()
     signed_messages_verify();
 }
 
-/// The replies to a request, as many as a transfer has, are taken by its client one behind the other, while the clocks agree
+/// The replies to a request, as many as a transfer has, are taken by its client one after the other. The clocks have to agree
 /// within the fudge. Replies that a service gives are sent as `signed_replies` has them.
 pub fn signed_transfers_are_taken()
     ensures taken { (p : SignerParts) (now : ℕ) (replies : List Msg) → IsAtClient p now → HasRoom p → AllByRecursion IsBare replies

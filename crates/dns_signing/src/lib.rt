@@ -20,8 +20,8 @@
 //! - A request that verifies is answered as the service inside answers it without its TSIG, each reply signed
 //!   (`verified_requests_are_signed_back`). The first reply is digested behind the request's MAC, each later one behind
 //!   the one before.
-//! - The client takes the first reply, under the key and behind the request's MAC (`signed_replies_verify`), and all
-//!   replies of a transfer, one behind the other (`signed_transfers_are_taken`).
+//! - The client takes the first reply, under the key and after the request's MAC (`signed_replies_verify`). It takes all replies of
+//!   a transfer, one after the other (`signed_transfers_are_taken`).
 //! - A request that doesn't verify never reaches the service inside (`unknown_keys_are_refused`, `verified`).
 //! - A reply is cut to what leaves room for its TSIG, behind OPT and all other records. It is always signed, and fits
 //!   what its transport allows (`signed_replies_fit`). So does a reply that refuses a request (`refusals_fit`).

@@ -18,8 +18,8 @@ use std::alloc::Global;
 use std::marker::Model;
 use std::sync::Arc;
 
-/// Signs the replies to one request, each behind the one before. It has the key, the stamp of each reply, how many octets a
-/// reply may have before its TSIG, the MACs of the request and of the last reply, and the request.
+/// Signs the replies to one request, each behind the one before. It has the key, the stamp of each reply and how many octets a
+/// reply may have before its TSIG. It has the MACs of the request and of the last reply, and the request.
 #[derive(Drop)]
 pub struct Signer {
     key: Arc<Key>,

@@ -73,9 +73,9 @@ pub record Story (answers : Serving) (s : Slate) (client : ℕ) (first : Look) (
   pub went : t'.went ≡ t.went ++ (frame_octets (sent_after answers s events) ++ extra)
   pub cut : Extra why (slate_after answers s (all_but_last events)).queue extra
 
--- Memory ran out. Each noted event may come where it stands, so no Offer is one. The noted pieces are a front of what was read. What was
--- written are the frames of the noted events, and then perhaps a part of one frame more, which stood first in the queue after these
--- events, or before the last of them, where that one is of a write that failed or took too long.
+-- Memory ran out. Each noted event may come where it stands, so no Offer is one. The noted pieces are a front of what was read.
+-- What was written are the frames of the noted events, and then perhaps a part of one frame more. That stood first in the queue
+-- after these events. Or it did before the last of them, if that one is of a write that failed or took too long.
 pub record Broken (answers : Serving) (s : Slate) (client : ℕ) (n n' : List Event) (t t' : Traffic) : Type 0 where
   pub events : List Event
   pub unread : List ℕ

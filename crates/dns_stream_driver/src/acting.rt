@@ -141,7 +141,7 @@ fn next_request<W: SharedService>(core: &ClientCore<W>, last: Option<u64>) -> Op
     }
 }
 
-/// How long a read is waited for: not long where a request is to be polled again, and else not past the moment at which the
+/// How long a read is waited for: not long if a request is to be polled again. Else it waits not past the moment at which the
 /// connection is idle for too long, by the moment of the last event. A wait is one millisecond at least.
 fn read_wait<W: SharedService>(core: &ClientCore<W>, kept: &TurnState) -> u64 {
     match core.first_unfinished() {

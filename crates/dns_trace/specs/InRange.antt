@@ -1,6 +1,5 @@
--- Settings and events whose configurations are in range, whose numbers and octets are in the ranges of their types, and whose
--- client is 0 where
--- all clients hear them.
+-- Settings and events that are in range: their configurations, and their numbers and octets by their types. The client is 0 if all
+-- clients hear them.
 use Rattle.std.specs.Prelude.{◌≡◌, ℕ, ◌<◌, ◌^◌, List, length, IfSome}
 use Rattle.std.specs.List.{All}
 use Rattle.hex.specs.Hex.{IsBytes}

@@ -1,6 +1,5 @@
--- The one spelling of each value: numbers in decimal without leading zeros, octets as hexadecimal digits in lower case, or `-` for
--- none, an IPv4
--- address as a dotted quad and an IPv6 address as 32 hexadecimal digits.
+-- The one spelling of each value: numbers in decimal without leading zeros. Octets are hexadecimal digits in lower case, or `-` for
+-- none. An IPv4 address is a dotted quad, and an IPv6 address 32 hexadecimal digits.
 use Rattle.std.specs.Prelude.{ℕ, Bool, true, false, List, [], ◌∷◌, ◌++◌, map, Option, Some, None, codes, decimal}
 use Rattle.std.specs.List.{join_with_byte}
 use Rattle.hex.specs.Hex.{encode_lower}

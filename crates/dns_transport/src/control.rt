@@ -82,9 +82,8 @@ impl Control {
         look.closed && look.taken == 0
     }
 
-    /// Looks until a look shows that the server was shut down and no slot is taken, or until so many milliseconds have passed
-    /// by the clock, which it reads at first and after each look that does not show this. Between two looks it waits, 100 ms at
-    /// most.
+    /// Looks until a look shows that the server was shut down and no slot is taken, or until so many milliseconds have passed. It
+    /// reads the clock at first and after each look that does not show this. Between two looks it waits, 100 ms at most.
     #[tactic(auto, using(crate::proofs::Awaiting::looks_none, crate::proofs::Awaiting::passed_told))]
     pub fn await_shutdown<R: Wait, C: Clock>(&mut self, rt: &R, clock: &mut C, millis: u64) -> bool
         ensures book { self.new.book ≡ self.old.book }

@@ -8,8 +8,8 @@ use dns_io::{Link, LinkRead, LinkWrite};
 use std::marker::Model;
 use std::sync::{Arc, Wait};
 
-/// A link over another, which tells what that tells. It adds to the metrics that it is given each frame whose end is read
-/// or written, and the connection, from `connect` on until it is closed. In clauses it is the other link.
+/// A link over another, which tells what that tells. It adds to the metrics that it is given each frame whose end is read or
+/// written. It adds the connection, from `connect` on until it is closed. In clauses it is the other link.
 #[derive(Drop)]
 pub struct Metered<L> {
     inner: L,

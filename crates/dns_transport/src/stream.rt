@@ -253,8 +253,8 @@ where
     W::Future: Send,
     W::Stream: Send,
 {
-    /// Accepts connections until a look shows a shutdown, and then waits by `join_all` for those that are served, of which no
-    /// clause says that they have ended.
+    /// Accepts connections until a look shows a shutdown. Then it waits by `join_all` for those that are served. No clause says
+    /// that they have ended.
     #[tactic(auto, using(crate::proofs::Joinings::not_counted, crate::proofs::Joinings::ran_joined))]
     pub fn run<R: Threads + Wait + Copy + Send + 'static>(
         &mut self,

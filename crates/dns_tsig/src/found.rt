@@ -81,8 +81,8 @@ impl<'a> Signed<'a> {
     }
 }
 
-/// The message and the TSIG that ends it, none where it has none, FORMERR where it has one that can't be interpreted or
-/// stands elsewhere (RFC 8945, section 5.1). A message whose records can't be read is taken as one without.
+/// The message and the TSIG that ends it, none if it has none. It is FORMERR if it has one that can't be interpreted or stands
+/// elsewhere (RFC 8945, section 5.1). A message whose records can't be read is taken as one without.
 #[tactic(auto, unfolding(crate::specs::Found::found))]
 pub fn find(message: &[u8]) -> Result<Option<Signed<'_>>, TsigError>
     requires { 12 ≤ length message.now }

@@ -29,8 +29,8 @@ module _ {D C J : Type 0} (failed_receives failed_sends : D → ℕ) where
   NoWorkerRose (w ∷ ws) (w' ∷ ws') = WorkerDidNot w w' × NoWorkerRose ws ws'
   NoWorkerRose ws ws' = Unit {0}
 
-  -- A count of failed accepts, refused starts, failed receives or failed sends rose where a host ends by a fault, and none changed
-  -- where it is done.
+  -- A count of failed accepts, refused starts, failed receives or failed sends rose if a host ends by a fault. None changed if it
+  -- is done.
   pub record RoseBy {A P : Type 0} (failed : A → ℕ) (refused : P → ℕ) (end : HostEnd) (h h' : WorkersHost A D C P J) : Type 0 where
     pub caused : CausedBy end
         ((Rose (failed h.accept) (failed h'.accept) ⊎ Rose (refused h.spawner) (refused h'.spawner))

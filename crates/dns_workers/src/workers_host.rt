@@ -92,11 +92,11 @@ where
         accepted
     }
 
-    /// Serves connections, and beside that datagrams by each worker, from a socket of its own in a thread of its own, until `count`
-    /// connections were accepted and `count` datagrams came to each worker, `count` not 0, or a look shows a shutdown. Each worker
-    /// has a seat of its own. One that ends by a fault or for want of memory shuts the book down, which ends all. Then `join_all`
-    /// of the spawner waits for the work of connections, of which no clause says that it has ended, the seats are joined, and the
-    /// book is shut down. Where no thread can be made the workers serve one after another.
+    /// Serves connections, and beside that datagrams by each worker, from a socket of its own in a thread of its own. It ends once
+    /// `count` connections were accepted and `count` datagrams came to each worker, `count` not 0, or a look shows a shutdown. Each
+    /// worker has a seat of its own. One that ends by a fault or for want of memory shuts the book down, which ends all. Then
+    /// `join_all` of the spawner waits for the work of connections, of which no clause says that it has ended. The seats are
+    /// joined, and the book is shut down. Where no thread can be made the workers serve one after another.
     pub fn serve<
         R: Threads + Wait + Copy + Send + Sync + 'static,
         W: SharedService + Send + Sync + 'static,

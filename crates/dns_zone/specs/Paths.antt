@@ -1,5 +1,5 @@
--- How a zone finds a name: by the octets of the name (RFC 1035, section 3.1) from their end, in lower case (RFC 4343, section 3), so
--- that the octets of a name begin with those of each name that it ends with.
+-- How a zone finds a name: by the octets of the name (RFC 1035, section 3.1) from their end, in lower case (RFC 4343, section 3).
+-- So the octets of a name begin with those of each name that it ends with.
 use Rattle.std.specs.Prelude.{ℕ, List, [], ◌∷◌, ◌++◌, length, reverse}
 use Rattle.dns_name.specs.Labels.{folded}
 

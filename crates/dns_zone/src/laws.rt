@@ -13,8 +13,7 @@ ghost use Rattle.dns_zone.specs.ZoneTurns.{zone_message};
 
 use dns_route::typed_replies_are_built;
 
-/// A name is said not to exist exactly where it is at or below no cut, and neither it nor a name below it owns a record
-/// (RFC 8020, section 2).
+/// A name is said not to exist exactly if it is at or below no cut, and no record is at or below it (RFC 8020, section 2).
 pub fn missing_names_are_denied()
     ensures { (z : ZoneState) (q : Question)
         → ((zone_reply z q).rcode ≡ 3) ↔ ((is_cut_off z q.qname ≡ false) × (exists z q.qname ≡ false)) }

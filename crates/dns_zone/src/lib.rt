@@ -10,12 +10,12 @@
 //! # What is proved
 //!
 //! - A list is refused exactly as `zone_error` says, which names the first cause and the record's place.
-//! - A turn gives the first of these that fits: FormatError without a readable question, NotImplemented for an opcode
-//!   other than QUERY, Refused for a name outside or another class, else the reply of `zone_reply` with AA.
+//! - A turn gives the first of these that fits: FormatError without a readable question, NotImplemented for an opcode other than
+//!   QUERY, Refused for a name outside or another class. Else it is the reply of `zone_reply` with AA.
 //! - `zone_reply` is stated over the list of records alone (RFC 1034, section 4.3.2; RFC 2308). The code finds names
 //!   by an ordered map, of which no definition speaks.
-//! - The response code is NXDOMAIN exactly if neither the name nor a name below it owns a record, and no cut is at or
-//!   above it (`missing_names_are_denied`).
+//! - The response code is NXDOMAIN exactly if no record is at the name or below it, and no cut at or above it
+//!   (`missing_names_are_denied`).
 //! - What is built of a reply is the message of `zone_reply`, section for section (`zone_replies_are_built`).
 //!
 //! # What a body could still get away with

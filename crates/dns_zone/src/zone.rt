@@ -63,9 +63,9 @@ impl Zone {
 impl SingleService for Zone {
     ghost answer = { zone_turn };
 
-    /// The error is FormatError where there is no readable first question, NotImplemented for an opcode other than QUERY,
-    /// Refused for a class other than IN and for a name outside the zone, and InternalError where the reply doesn't fit
-    /// 65,535 octets. What is built of a reply is the message of the zone's reply.
+    /// The error is FormatError if there is no readable first question, and NotImplemented for an opcode other than QUERY. It is
+    /// Refused for a class other than IN and for a name outside the zone. It is InternalError if the reply doesn't fit 65,535
+    /// octets. What is built of a reply is the message of the zone's reply.
     fn turn(&self, alloc: Global, request: &Request<()>, _k: u64) -> Result<Turned, OutOfMemory>
         ensures answer { IfOk result (λ p. p ≡ zone_turn self.now request.now _k) }
         ensures built { IfOk result (TurnsTo self.now request.now.octets) }

@@ -1,5 +1,6 @@
--- The index of a zone: the keys of the names that own records, behind one another, and a node for each in the order of the keys, which
--- compare as names do in the canonical order (RFC 4034, section 6.1). A name above one of them needs no node: its key begins theirs.
+-- The index of a zone: the keys of the names that own records, one after another, and a node for each in the order of the keys.
+-- They compare as names do in the canonical order (RFC 4034, section 6.1). A name above one of them needs no node: its key begins
+-- theirs.
 use Rattle.std.specs.Prelude.{ℕ, ◌≡◌, Bool, true, ◌&&◌, not, List, [], ◌∷◌, ◌++◌, length, take, map, nat_le, if◌then◌else◌, Option, Some, None}
 use Rattle.std.specs.List.{AllByRecursion, filter, list_any, slice_range}
 use Rattle.std.specs.Ordering.{is_lt, nat_cmp}

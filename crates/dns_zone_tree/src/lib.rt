@@ -25,14 +25,14 @@
 //!   RFC 6672, section 2.4): at the name, at its closest encloser, at a cut or at DNAME records.
 //! - A walk for type DS passes the cut at the name itself, whose DS records are the parent's (RFC 4035, section
 //!   3.1.4.1).
-//! - What is found of a name or of a wildcard is the places of exactly its records, in the order of the list, and
-//!   whether it exists.
+//! - What is found of a name or of a wildcard are the places of exactly its records, in the order of the list. It says whether the
+//!   name exists.
 //! - `glue` is the addresses of the name servers that lie in the zone, each once, in the order of the list.
 //!
 //! # What a body could still get away with
 //!
-//! How many names a walk looks up, and how much memory the tree takes. By reading the code a walk looks up one name
-//! for each label below the apex, and passes over the places of each of these names and of the apex.
+//! How many names a walk looks up, and how much memory the tree takes. By reading the code a walk looks up one name for each label
+//! below the apex. It passes over the places of each of these names and of the apex.
 #![tactic(auto)]
 
 mod check;

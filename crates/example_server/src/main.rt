@@ -1,6 +1,6 @@
 //! A service of one's own in the four layers, served over UDP and TCP on loopback. It answers a question for an address, with AA
-//! set, and refuses all else. A client in a thread of its own asks for an address over UDP and for an IPv6 address over TCP, and
-//! then shuts both servers down. The octets of both replies are printed in hex, and what the metrics counted.
+//! set, and refuses all else. A client in a thread of its own asks for an address over UDP and for an IPv6 address over TCP. Then
+//! it shuts both servers down. The octets of both replies are printed in hex, and what the metrics counted.
 #![tactic(auto)]
 
 mod address;

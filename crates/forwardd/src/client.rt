@@ -28,8 +28,8 @@ pub(crate) enum Client {
     },
 }
 
-/// How busy a connection is: how many of its requests wait for their responses, how many may, when the last of them came or was
-/// answered, and for how many ms it may be idle then.
+/// How busy a connection is: how many of its requests wait for their responses, and how many may. Then when the last of them came
+/// or was answered, and for how many ms it may be idle then.
 #[derive(Clone, Copy)]
 pub(crate) struct Load {
     pub(crate) waiting: usize,

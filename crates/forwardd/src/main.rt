@@ -5,8 +5,8 @@
 //!   messages that wait for room.
 //! - `forwarder` has the clients, the core of dns_proxy and its front, and waits for what comes next (`token` says where).
 //!   What comes of a client is begun there.
-//! - `asking` asks upstreams: each question from a port of its own that nobody can guess (`port`), equal messages from one
-//!   (`place`), and over a connection where an answer was truncated (`connection`).
+//! - `asking` asks upstreams: each question from a port of its own that nobody can guess (`port`), and equal messages from one
+//!   (`place`). If an answer was truncated it is asked over a connection (`connection`).
 //! - `address` has addresses as sockets have them.
 //!
 //! ```text

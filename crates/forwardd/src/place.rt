@@ -12,7 +12,7 @@ pub(crate) struct Drawn {
     pub(crate) number: u64,
 }
 
-/// A query: its client, the server that it is asked of, what was drawn for it, and the port from which it is asked, if it is by now.
+/// A query: its client, the server that it is asked of, what was drawn for it, and the port from which it is asked, if any.
 #[derive(Clone, Copy)]
 pub(crate) struct Place {
     pub(crate) client: Client,

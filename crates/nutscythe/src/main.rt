@@ -1,8 +1,8 @@
 //! The program: a script on standard input, its outputs or its text on standard output, or a server that runs by it.
 //!
-//! `main` looks at the first word. `serve` hands the plan of `serve_plan` to `serve_workers_over`, over witnesses of the
-//! machine's sockets, clock and threads, with a worker on each processor where no count is given. Everything else goes to
-//! `run`. It is tested by its stored run, by tools/door, by tools/memory and by bench/workers.
+//! `main` looks at the first word. `serve` hands the plan of `serve_plan` to `serve_workers_over`, over witnesses of the machine's
+//! sockets, clock and threads. Without a count there is a worker on each processor. Everything else goes to `run`. It is tested by
+//! its stored run, by tools/door, by tools/memory and by bench/workers.
 #![tactic(auto)]
 
 mod serving;

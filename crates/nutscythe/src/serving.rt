@@ -249,8 +249,8 @@ fn open_workers<R: Net + rt::Clock + Threads + Copy>(
     }
 }
 
-/// Opens the sockets and serves what is planned. The one of connections is opened first, since it is refused where another server
-/// has the address, and no datagram is to be taken from that one.
+/// Opens the sockets and serves what is planned. The socket of connections is opened first, since it is refused if another server
+/// has the address. No datagram is to be taken from that server.
 pub(crate) fn serve<R: Net + rt::Clock + Threads + Wait + Copy + Send + Sync + 'static>(
     rt: R,
     alloc: Global,

@@ -19,8 +19,8 @@
 //!
 //! # What is proved
 //!
-//! - No call has a `requires`. What a caller must keep is what the types say: pointers that lead to as many objects as are
-//!   said, nothing that a call writes overlaps what else it is given, a handle is as a call left it, or zeros.
+//! - No call has a `requires`. What a caller must keep is what the types say: pointers that lead to as many objects as are said.
+//!   Nothing that a call writes overlaps what else it is given. A handle is as a call left it, or zeros.
 //! - A call gives exactly one of the statuses that it names, and each says what became of the buffer, the lengths and the
 //!   handles. A call that is refused leaves them.
 //! - What a call answers is what dns_embed says of its values.

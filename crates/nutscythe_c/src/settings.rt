@@ -26,8 +26,8 @@ use std::mem;
 pub struct LineRefusal {
     /// The line.
     pub line: u64,
-    /// 0 an octet is no printable character, 1 the first word is that of no setting, 2 and 3 are not used, 4 the line stands
-    /// again, 5 too few words or too many, 6 a word spells no value, 7 is not used.
+    /// 0 an octet is no printable character, 1 the first word is that of no setting, 2 and 3 are not used. 4 the line stands again,
+    /// 5 too few words or too many, 6 a word spells no value, 7 is not used.
     pub reason: u32,
 }
 

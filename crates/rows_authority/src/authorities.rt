@@ -24,8 +24,8 @@ impl Calls for Authorities {
     }
 }
 
-/// What is answered by an authority that may be transferred to the network of the next words, an address and the length of
-/// its prefix, whose zones follow (their number, and an apex and records for each), to the request behind them.
+/// What is answered to the request at the end. The authority may be transferred to the network of the next words, an address and
+/// the length of its prefix. Its zones follow: their number, and an apex and records for each.
 fn asked(row: &mut Row<'_>) {
     let mut authority = Authority::new(row.alloc(), allowed(row));
     let zones: u8 = row.number();

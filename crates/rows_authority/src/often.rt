@@ -1,5 +1,5 @@
-//! An authority that is asked often, whose zone has the names `x00000.example.` and so on, behind 100,000 of one letter those of
-//! the letter before it, which `bench/authority` times.
+//! An authority that is asked often, which `bench/authority` times. Its zone has the names `x00000.example.` and so on, after
+//! 100,000 of one letter those of the letter before it.
 
 ghost use Rattle.std.specs.Prelude.{◌≤◌, ◌+◌, length};
 ghost use Rattle.dns_zone.specs.Owned.{AreLawful};

@@ -51,7 +51,7 @@ const REPLY: &[u8] = b"\x12\x34\x81\x00\x00\x01\x00\x00\x00\x00\x00\x00\x00\x00\
 
 const NO_NAME: &[u8] = b"\x12\x34\x81\x03\x00\x01\x00\x00\x00\x00\x00\x00\x00\x00\x01\x00\x01";
 
-/// A query with an OPT record behind its length, and such replies, which say after how many units of 100 ms an idle connection is
+/// A query with an OPT record after its length, and such replies. They say after how many units of 100 ms an idle connection is
 /// closed (RFC 7828): by the look at which the connection was admitted, 5 s.
 const FRAME: &[u8] =
     b"\x00\x1c\x12\x34\x01\x00\x00\x01\x00\x00\x00\x00\x00\x01\x00\x00\x01\x00\x01\x00\x00\x29\x00\x00\x00\x00\x00\x00\x00\x00";

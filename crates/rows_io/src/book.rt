@@ -114,8 +114,8 @@ fn has_one_slot<R: Wait>(rt: &R, alloc: Global, taken: &Look) -> bool {
     }
 }
 
-/// Whether the machine gives these replies in some order of the calls in which each of the two lists keeps its own, and
-/// then shows `last`.
+/// Whether the machine gives these replies in some order of the calls, and then shows `last`. Each of the two lists keeps its own
+/// order.
 fn fit_in_some_order(
     state: BookState,
     first: &[(Call, Reply)],

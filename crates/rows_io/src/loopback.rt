@@ -187,8 +187,8 @@ fn next_descriptor<R: Net<Stream = TcpStream>>(rt: &R, port: u16) -> Option<i32>
     }
 }
 
-/// Whether a link that is closed shows its peer the end and writes no more, and its descriptor, which had this number, is free
-/// again though the link is still there.
+/// Whether a link that is closed shows its peer the end and writes no more. Its descriptor, which had this number, is free again
+/// though the link is still there.
 fn lets_go<R: Net<Stream = TcpStream>, L: Link>(
     rt: &R,
     link: &mut L,

@@ -144,8 +144,8 @@ fn verified(alloc: Global, size: usize, count: u32) -> Result<u64, OutOfMemory> 
     Ok(sum)
 }
 
-/// How many responses are sent whole of those to so many clients, ten a second each, clients far apart in turn and a million
-/// a second.
+/// How many responses are sent whole of those to so many clients, ten a second each. The clients are far apart in turn, a million a
+/// second.
 fn asked(alloc: Global, clients: usize, count: u32) -> Result<u64, OutOfMemory> {
     let rate = Rate {
         per_second: 10,

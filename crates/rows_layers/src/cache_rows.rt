@@ -92,7 +92,7 @@ impl Steps for Stepped {
 }
 
 /// Takes a step with the request of the next words, behind its second: the reply of its key is removed, or it is asked over a
-/// service that gives a reply, or, to tell what is kept, over one that refuses.
+/// service that gives a reply. Or, to tell what is kept, it is asked over one that refuses.
 fn taken(row: &mut Row<'_>, cache: &mut Cache, step: &str) {
     let second = row.number();
     match request_from(row, IpAddr::V4([192, 0, 2, 1]), second) {

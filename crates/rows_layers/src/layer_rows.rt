@@ -33,8 +33,8 @@ impl Calls for MandatoryRows {
     }
 }
 
-/// The EDNS layer, the NOTIFY layer, of which the next words say how often it is polled and its target, and all layers, as the
-/// next words set them.
+/// The EDNS layer, the NOTIFY layer and all layers, as the next words set them. Of the NOTIFY layer they say how often it is polled
+/// and its target.
 #[derive(Drop)]
 pub(crate) struct LayerRows;
 

@@ -16,9 +16,9 @@ use dns_service::{
 use rows_table::{Calls, Row, RowError};
 use std::alloc::Global;
 
-/// A query is made a request that came in a datagram, so many times, and a service is asked that answers at once with a copy
-/// of a reply: the sum of the octets of all replies. Or a router is asked, of which one turn is made for each, or work is done
-/// that asks for no service. And a reply is cut, or a stream is watched.
+/// A query is made a request that came in a datagram, so many times. A service is asked that answers at once with a copy of a
+/// reply: the sum of the octets of all replies. Or a router is asked, of which one turn is made for each, or work is done that asks
+/// for no service. And a reply is cut, or a stream is watched.
 #[derive(Drop)]
 pub(crate) struct OftenRows;
 

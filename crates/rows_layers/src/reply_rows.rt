@@ -104,8 +104,8 @@ fn replied(row: &mut Row<'_>, whole: bool) {
     }
 }
 
-/// What a message's OPT record says: how many additional records there are, the header's response code, the whole
-/// response code, the size, how many octets of options there are, and how many options are read.
+/// What a message's OPT record says: how many additional records there are, the header's response code, the whole response code,
+/// and the size. Then how many octets of options there are, and how many options are read.
 fn written_said(row: &mut Row<'_>, reply: &AdditionalBuilder) {
     match reply.as_message().opt() {
         Some(opt) => {
@@ -139,8 +139,8 @@ fn steps_taken(row: &mut Row<'_>, reply: &mut AdditionalBuilder) {
     }
 }
 
-/// A step: an OPT record of a size and with the code BADCOOKIE, an OPT record with padding, padding, an NSID or an address
-/// that is added, a push limit, or the OPT record that is removed.
+/// A step: an OPT record of a size and with the code BADCOOKIE, or one with padding. Or padding, an NSID or an address that is
+/// added, a push limit, or the OPT record that is removed.
 fn step_said(row: &mut Row<'_>, reply: &mut AdditionalBuilder, step: &str) {
     let (name, argument) = step.split_once(':').unwrap_or((step, "0"));
     match name {

@@ -161,7 +161,7 @@ impl Seen {
     }
 }
 
-/// Whether these octets were written on the links, which were handed to a hook so many times, and each of which was closed so many
+/// Whether these octets were written on the links. The links were handed to a hook so many times, and each was closed so many
 /// times.
 pub fn show<R: Wait>(rt: &R, seen: &[Arc<Seen>], wanted: &[(&[u8], u64)], closed: u64) -> bool {
     if seen.len() != wanted.len() {

@@ -192,7 +192,7 @@ const CASES: &[(&'static str, Trial<LinkCase<'static>>)] = &[
             (1, 1),
         ),
     ),
-    // A query with an OPT record to a service in all layers, and its reply, which says after how many units of 100 ms an idle
+    // A query with an OPT record to a service in all layers, and its reply. That says after how many units of 100 ms an idle
     // connection is closed (RFC 7828).
     (
         "a_wrapped_service_answers",

@@ -73,8 +73,7 @@ fn rcode(row: &mut Row<'_>) -> Rcode {
     }
 }
 
-/// The answer or the error answer to a query, of at most so many octets and with a response code, and what the steps say of
-/// it.
+/// The answer or the error answer to a query, of at most so many octets and with a response code. And what the steps say of it.
 fn started(row: &mut Row<'_>, error: bool) {
     let limit = row.number();
     let rcode = rcode(row);

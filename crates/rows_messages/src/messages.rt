@@ -40,8 +40,8 @@ pub(crate) fn next_message<'a>(row: &mut Row<'a>) -> MessageRef<'a> {
     }
 }
 
-/// The first four octets and the counts of a message's header, and how many octets stand behind its questions, where each
-/// name of them is uncompressed.
+/// The first four octets and the counts of a message's header. Then how many octets stand after its questions, if each name of them
+/// is uncompressed.
 fn plain(row: &mut Row<'_>) {
     let message = next_message(row);
     let octets = message.as_slice();

@@ -235,8 +235,8 @@ fn are_options(octets: &[u8]) -> bool
     octets.len() <= 65535 && is_option_list(octets)
 }
 
-/// Adds the OPT record of the next words, its size, its TTL and its options, or puts it in place of the OPT records, and says
-/// what that answers.
+/// Adds the OPT record of the next words, its size, its TTL and its options, or puts it in place of the OPT records. It says what
+/// that answers.
 fn with_opt(builder: &mut AdditionalBuilder, row: &mut Row<'_>, replaces: bool) {
     let (size, ttl) = (row.number(), Ttl::from_secs(row.number()));
     let options = row.octets();

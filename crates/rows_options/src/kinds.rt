@@ -127,8 +127,7 @@ fn next_compared<K: Next + Ord + Hash + Drop>(row: &mut Row<'_>) {
     compared(row, &first, &second)
 }
 
-/// How a chain that is owned compares with the owned form of one that is borrowed, and whether the former is hashed alike in
-/// both forms.
+/// How a chain that is owned compares with the owned form of a borrowed one. And whether the former is hashed alike in both forms.
 fn owned_compared(row: &mut Row<'_>, first: &ChainRef<'_>, kept: &Chain, second: &ChainRef<'_>) {
     match second.to_owned(row.alloc()) {
         Ok(other) => {

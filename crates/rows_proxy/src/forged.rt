@@ -25,8 +25,8 @@ impl Calls for Forged {
     }
 }
 
-/// How many of so many forged answers to the query of the next words lead to anything, each with the octets behind the
-/// identifier that follow.
+/// How many of so many forged answers to the query of the next words lead to anything. Each has the octets after the identifier
+/// that follow.
 fn count_taken(row: &mut Row<'_>) {
     let settings = Settings::new(row.alloc());
     let times: u64 = row.number();

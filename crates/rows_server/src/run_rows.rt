@@ -164,7 +164,8 @@ fn one_write_fails(
     status
 }
 
-/// How the runs of a word end of which the read of each number fails, or the write of each, up to the first run that is done.
+/// How the runs of a word end in which the read of each number fails, or the write of each. They go up to the first run that is
+/// done.
 fn each_fails(row: &mut Row<'_>, reads: bool) {
     let words = next_words(row);
     let text = next_text(row);

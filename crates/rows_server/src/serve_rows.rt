@@ -7,8 +7,8 @@ use dns_outside::{MemorySink, MemorySource};
 use dns_run::{ServePlan, Status, serve_plan};
 use rows_table::Row;
 
-/// The plan of words and a script, or why there is none, where one read and one write fail, or none, whether anything was read, and
-/// what is written.
+/// The plan of words and a script, or why there is none, if one read and one write fail, or none. Then whether anything was read,
+/// and what is written.
 pub(crate) fn planned(row: &mut Row<'_>) {
     let read = row.optional();
     let write = row.optional();

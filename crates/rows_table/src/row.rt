@@ -15,9 +15,9 @@ fn root<'a>() -> NameRef<'a> {
     }
 }
 
-/// The words of a row that are still to be read, the octets that they are, what its call says so far, and the first fault,
-/// if there is one. A row with a fault doesn't hold, whatever its call says: so what can't be read is zero or empty, and
-/// reading goes on.
+/// The words of a row that are still to be read, and the octets that they are. Then what its call says so far, and the first fault,
+/// if there is one. A row with a fault doesn't hold, whatever its call says: so what can't be read is zero or empty, and reading
+/// goes on.
 #[derive(Drop)]
 pub struct Row<'a> {
     alloc: Global,

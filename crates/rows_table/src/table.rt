@@ -10,8 +10,8 @@ use std::process::ExitCode;
 
 /// The calls that the rows of a table name.
 pub trait Calls {
-    /// Says in a row what the call of this name says of the row's arguments, which are read to their end before anything
-    /// can be refused.
+    /// Says in a row what the call of this name says of the row's arguments. They are read to their end before anything can be
+    /// refused.
     fn answer(&self, call: &str, row: &mut Row<'_>) -> Result<(), RowError>;
 }
 

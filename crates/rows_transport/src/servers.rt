@@ -25,8 +25,8 @@ use std::thread::Threads;
 /// A query for the root's address.
 const QUERY: &[u8] = b"\x12\x34\x01\x00\x00\x01\x00\x00\x00\x00\x00\x00\x00\x00\x01\x00\x01";
 
-/// The query with an OPT record, and the reply that all is well, which says after how many units of 100 ms an idle connection is
-/// closed (RFC 7828), both behind their length.
+/// The query with an OPT record, and the reply that all is well, both after their length. The reply says after how many units of
+/// 100 ms an idle connection is closed (RFC 7828).
 pub const FRAME: &[u8] =
     b"\x00\x1c\x12\x34\x01\x00\x00\x01\x00\x00\x00\x00\x00\x01\x00\x00\x01\x00\x01\x00\x00\x29\x00\x00\x00\x00\x00\x00\x00\x00";
 

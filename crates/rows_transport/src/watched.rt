@@ -6,8 +6,8 @@ ghost use Rattle.dns_outside.specs.Causes.{Observed};
 use dns_outside::{AcceptAnswer, AsyncAccept};
 use std::sync::Wait;
 
-/// An accept object, and a letter for each call: `a` for an accept that brought a connection, `A` for one that answered Again,
-/// `F` for one that failed, `z` for a wait, and `0` for one of no time.
+/// An accept object, and a letter for each call: `a` for an accept that brought a connection, `A` for one that answered Again, `F`
+/// for one that failed. `z` for a wait, and `0` for one of no time.
 #[derive(Drop)]
 pub struct WatchedAccept<A> {
     /// What is asked.

@@ -12,8 +12,8 @@ use std::fmt;
 use std::marker::PhantomData;
 
 impl<K: Registered> Code<K> {
-    /// The code that a text names: by its registered name up to ASCII case, or by its decimal number, which stands behind
-    /// TYPE for a record type and CLASS for a class (RFC 3597, section 5).
+    /// The code that a text names: by its registered name up to ASCII case, or by its decimal number. That stands after TYPE for a
+    /// record type and after CLASS for a class (RFC 3597, section 5).
     pub fn from_text(text: &str) -> Option<Code<K>>
         ensures { result ≡ code_named K.REGISTRY text.now }
     {

@@ -1,8 +1,7 @@
 //! The response that is read and built.
 
-/// A response of 512 octets with names uncompressed: a question, four answer records, two authority records, four
-/// additional ones, and an OPT record whose five options are a cookie, a server's name, an extended error, a
-/// keepalive and padding up to the end.
+/// A response of 512 octets with names uncompressed: a question, four answer records, two authority records, four additional ones,
+/// and an OPT record. Its five options are a cookie, a server's name, an extended error, a keepalive and padding up to the end.
 pub(crate) const RESPONSE: [u8; 512] = *b"\
 \x124\x81\x80\x00\x01\x00\x04\x00\x02\x00\x05\
 \x07example\x03com\x00\x00\x01\x00\x01\

@@ -118,8 +118,8 @@ pub(crate) enum Trial<K> {
     Refused(K),
     /// A service that counts, and how often it is called and its futures are polled.
     Counted(K, (u64, u64)),
-    /// A service in all layers that answers each request with the error reply that the name isn't there, where that is said, or
-    /// else that all is well.
+    /// A service in all layers that answers each request with the error reply that the name isn't there. Or it answers, as is said,
+    /// that all is well.
     Layered(K, bool),
 }
 

@@ -7,8 +7,8 @@ use dns_memory::{Link, LinkRead, LinkWrite};
 use dns_service::{DgramConfig, StreamConfig};
 use std::sync::Wait;
 
-/// A link over another. Where it halts, it takes ten octets a write at most, and at each of its waits the book gets other
-/// configurations and is shut down. It tells nothing.
+/// A link over another. If it halts, it takes ten octets a write at most. At each of its waits the book gets other configurations
+/// and is shut down. It tells nothing.
 #[derive(Drop)]
 pub struct Halting<'a, L> {
     pub link: &'a mut L,

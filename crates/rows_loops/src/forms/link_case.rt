@@ -31,7 +31,7 @@ pub(crate) struct LinkCase<'a> {
     pub(crate) writes_again: &'a [u64],
     /// The readings of the clock.
     pub(crate) times: &'a [(u64, u64)],
-    /// Whether the book is shut down before the connection is served, and at each wait of its link, which then takes ten octets a
+    /// Whether the book is shut down before the connection is served, and at each wait of its link. Then it takes ten octets a
     /// write at most.
     pub(crate) shut_before: bool,
     pub(crate) shut_at_waits: bool,

@@ -8,8 +8,8 @@ use dns_name::SocketAddr;
 use std::alloc::Global;
 use std::sync::Wait;
 
-/// A link or a socket for datagrams, and a letter for each call: `r` for a read or a receive, `w` for a write or a send, `R`
-/// and `W` where these answered Again, `z` for a wait, `y` for one of a millisecond, `0` for one of no time, and `c` for a close.
+/// A link or a socket for datagrams, and a letter for each call: `r` for a read or a receive, `w` for a write or a send, `R` and
+/// `W` if these answered Again. `z` for a wait, `y` for one of a millisecond, `0` for one of no time, and `c` for a close.
 #[derive(Drop)]
 pub struct Watched<T> {
     inner: T,

@@ -99,7 +99,7 @@ impl<R: Threads + Wait + Sync, W: SharedService> Mailing<'_, R, W> {
         count(self.server.metrics(), 1) && sent_the_reply(self.server.source())
     }
 
-    /// Whether one datagram is answered and noted, the server is shut down, as a control shows that was made before, and what it
+    /// Whether one datagram is answered and noted, and the server is shut down, as a control shows that was made before. What it
     /// counted is shown.
     pub fn answers(&mut self) -> bool
         requires { W.can_call self.old.server.service }
