@@ -89,10 +89,10 @@ queued at k (Some m) r timeout s =
     (sym (enqueued-either i (framed (wire m)) (finds_room i) (is_in_transaction r.status) refl refl))
 
 -- a frame that is queued leaves how far the request is, the bound and the budget
-abbrev Keeps : ConnectionInvoker → ConnectionInvoker → Type 0
+abbrev pub Keeps : ConnectionInvoker → ConnectionInvoker → Type 0
 Keeps i j = (j.status ≡ i.status) × (j.queue.capacity ≡ i.queue.capacity) × (j.budget.allowed ≡ i.budget.allowed) × (j.budget.window ≡ i.budget.window)
 
-keeps : (frame : Option (List ℕ)) (i : ConnectionInvoker) (space : Bool) → finds_room i ≡ space → Keeps i (queueing frame i)
+pub keeps : (frame : Option (List ℕ)) (i : ConnectionInvoker) (space : Bool) → finds_room i ≡ space → Keeps i (queueing frame i)
 keeps None i space e = (refl, refl, refl, refl)
 keeps (Some m) i true e = rw (e) (refl, refl, refl, refl)
 keeps (Some m) i false e = rw (e) (refl, refl, refl, refl)
