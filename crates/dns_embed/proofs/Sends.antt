@@ -1,5 +1,5 @@
 -- Whatever calls a caller makes of a connection, what is sent is what the rules for one client give.
-use Rattle.std.proofs.Common.{◌≡◌, ℕ, ◌+◌, List, [], ◌∷◌, ◌++◌, length, Bool, true, false, Option, Some, None, refl, ap, sym, ◌∙◌, subst, arith}
+use Rattle.std.proofs.Common.{◌≡◌, ℕ, List, [], ◌∷◌, ◌++◌, length, Bool, true, false, Option, Some, None, refl, ap, sym, ◌∙◌, subst, arith}
 use Rattle.std.specs.Prelude.{◌==◌, ◌&&◌, nat_lt, not, slice_get, if◌then◌else◌}
 use Rattle.std.specs.List.{list_any}
 use Rattle.std.proofs.Math.Dec.{eqb-suc-zero}
@@ -15,8 +15,6 @@ use Rattle.dns_events.specs.declared.event.Why.TheVariants.{Ended, Fault as By_f
 use Rattle.dns_events.specs.declared.settings.Settings.{Settings}
 use Rattle.dns_framing.specs.Budget.{rebudgeted}
 use Rattle.dns_framing.specs.Config.{Connection as Config}
-use Rattle.dns_framing.specs.Frames.{frames}
-use Rattle.dns_framing.specs.Invoker.{offered}
 use Rattle.dns_framing.specs.Timers.{is_expired}
 use Rattle.dns_framing.proofs.FramesLemmas.{frames_none, rest_none}
 use Rattle.dns_session.specs.After.{sent_after}

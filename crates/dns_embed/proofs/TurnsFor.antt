@@ -1,10 +1,7 @@
 -- The turn of a request follows the rules.
-use Rattle.std.proofs.Common.{◌≡◌, ◌⊎◌, inl, inr, ⊎_elim, ℕ, ◌+◌, List, [], ◌∷◌, ◌++◌, Bool, true, false, MatchBool, Option, Some, None, Ok, Err, refl, ap, sym, ◌∙◌, subst}
-use Rattle.std.specs.Prelude.{slice_get, slice_set, if◌then◌else◌, not, ◌&&◌}
-use Rattle.circular_buffer.specs.Buffer.{Buffer}
+use Rattle.std.proofs.Common.{◌≡◌, ⊎_elim, ℕ, List, [], Bool, true, false, MatchBool, Option, Some, None, Ok, Err, refl, ap, sym, ◌∙◌, subst}
+use Rattle.std.specs.Prelude.{slice_get, if◌then◌else◌, not, ◌&&◌}
 use Rattle.dns_service.specs.Answer.{Answer, Item}
-use Rattle.dns_service.specs.declared.invoker.Enqueued.{Enqueued}
-use Rattle.dns_service.specs.declared.invoker.Enqueued.TheVariants.{Queued, Held, Dropped}
 use Rattle.dns_service.specs.declared.invoker.InvokerStatus.{InvokerStatus}
 use Rattle.dns_service.specs.declared.invoker.InvokerStatus.TheVariants.{Normal}
 use Rattle.dns_service.specs.declared.service.Polled.TheVariants.{Pending, Ready}
@@ -12,7 +9,7 @@ use Rattle.dns_service.specs.declared.service.ServiceFeedback.TheVariants.{EndTr
 use Rattle.dns_framing.specs.Invoker.{begun_with, finds_room, offered}
 use Rattle.dns_framing.specs.Transactions.{is_in_transaction}
 use Rattle.dns_framing.specs.declared.invoker.ConnectionInvoker.{ConnectionInvoker}
-use Rattle.dns_session.specs.Connections.{in_transaction, spending}
+use Rattle.dns_session.specs.Connections.{in_transaction}
 use Rattle.dns_session.specs.Serving.{Serving}
 use Rattle.dns_session.specs.Slate.{Slate, SlateRequest}
 use Rattle.dns_session.specs.Turns.{answered, ends, queue_reply, reply_to, retimed, turn, turn_request, with_request}
@@ -21,9 +18,9 @@ use Rattle.dns_embed.specs.declared.transactions.Heard.{Heard}
 use Rattle.dns_embed.specs.declared.transactions.Heard.TheVariants.{Nothing, Feedback}
 use Rattle.dns_embed.specs.Caller.{Caller, Sending, IsAnswered, IsGiven, IsTurned, Turns, ending, given_again, held_on, past_given, turned}
 use Rattle.dns_embed.specs.Connections.{offering, unless_closing}
-use Rattle.dns_embed.specs.Transactions.{counted, dropped_as, enqueued_as, enqueued_of, giving, invoker_given, invoker_hearing, queueing, status_of}
+use Rattle.dns_embed.specs.Transactions.{counted, dropped_as, enqueued_as, giving, invoker_given, invoker_hearing}
 use Rattle.dns_embed.specs.Turned.{ShowsIn, frame_for, heard_of, kept_frame, past_item, shown_by}
-use Rattle.dns_embed.proofs.StandsFor.{IsOpenFor, SameBeside, counted-same, goes, moved, moves, set_same}
+use Rattle.dns_embed.proofs.StandsFor.{IsOpenFor, SameBeside, counted-same, goes, moves, set_same}
 use Rattle.dns_embed.proofs.Turned.{as-turned, held-as-turned, keeps}
 
 -- nothing is sent by a turn, and the connection stands for the slate after it

@@ -1,7 +1,7 @@
 -- Who makes the calls of one client's connection: what it has of the client, and by which call it follows each event that the client
 -- hears. A frame is sent once it was written, and the connection is closed where a call says so. The answers are those of the wrapped
 -- service, by request and poll.
-use Rattle.std.specs.Prelude.{◌≡◌, ℕ, ◌+◌, ◌<◌, ◌⊎◌, ◌==◌, List, [], ◌∷◌, ◌++◌, length, nat_lt, slice_get, slice_set, MatchBool, if◌then◌else◌, false, Option, Some, None, Ok, Err}
+use Rattle.std.specs.Prelude.{◌≡◌, ℕ, ◌⊎◌, ◌==◌, List, [], ◌∷◌, ◌++◌, length, nat_lt, slice_get, slice_set, MatchBool, if◌then◌else◌, false, Option, Some, None}
 use Rattle.dns_name.specs.declared.address.SocketAddr.{SocketAddr}
 use Rattle.dns_events.specs.declared.event.Event.{Event}
 use Rattle.dns_events.specs.declared.event.EventKind.{EventKind}

@@ -9,7 +9,6 @@ use Rattle.dns_framing.specs.Budget.{rebudgeted, unspent}
 use Rattle.dns_framing.specs.Frames.{framed, frames}
 use Rattle.dns_framing.specs.Invoker.{finds_room, offered}
 use Rattle.dns_framing.specs.Timers.{deadline, is_expired, last_moment}
-use Rattle.dns_framing.specs.declared.invoker.ConnectionInvoker.{ConnectionInvoker}
 use Rattle.dns_service.specs.Config.{Connection as Config}
 use Rattle.dns_service.specs.declared.invoker.InvokerStatus.TheVariants.{Normal}
 use Rattle.dns_embed.specs.declared.connection.Connection.{Connection}
