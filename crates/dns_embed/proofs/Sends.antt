@@ -27,7 +27,7 @@ use Rattle.dns_session.proofs.Transactions.{none_passes}
 use Rattle.dns_embed.specs.declared.connection.Connection.{Connection}
 use Rattle.dns_embed.specs.declared.connection.Written.{Written}
 use Rattle.dns_embed.specs.declared.connection.Written.TheVariants as Written_as
-use Rattle.dns_embed.specs.Caller.{Caller, Sending, Call, FlushingCall, OpenCall, Sends, SendsAsRuled, Turns, Writes, beginning, closed, feeding, goes_on, ticked, took, wound_up, wrote, wrote_last}
+use Rattle.dns_embed.specs.Caller.{Caller, Sending, Call, FlushingCall, OpenCall, Sends, SendsAsRuled, Turns, Writes, beginning, closed, goes_on, ticked, took, wound_up, wrote, wrote_last}
 use Rattle.dns_embed.specs.Connections.{WritesBy, WritesFront, closing, configured, is_idle, popped, timer_behind, unless_closing}
 use Rattle.dns_embed.proofs.StandsFor.{Follows, IsFlushingFor, IsOpenFor, StandsFor, StandsIn, conf_flushing, conf_open, feeds, flushing_for, follows_closed, follows_open, goes, open_for}
 use Rattle.dns_embed.proofs.TurnsFor.{turns_for}
@@ -262,9 +262,9 @@ module _ (answers : Serving) where
   sends_on : (es : List Event) (k : Caller) (s : Slate) (outs : List Output) → StandsFor k s → Sends answers es k outs → outs ≡ sent_after answers s es
   sends_on [] k s outs h g = g
   sends_on (e ∷ es) k s outs h g =
-      let one : Follows (g.1, g.2) (rule answers e s) = step e k.phase (feeding g.0 k) s (g.1, g.2) refl (feeds g.0 k.phase k s h) g.4 in
-      let more : g.3 ≡ sent_after answers (rule answers e s).0 es = sends_on es g.1 (rule answers e s).0 g.3 one.1 g.5 in
-      g.6 ∙ (ap (λ (os : List Output). os ++ g.3) one.0 ∙ ap (λ (os : List Output). (rule answers e s).1 ++ os) more)
+      let one : Follows (g.1, g.2) (rule answers e s) = step e k.phase (record k { connection = g.0 }) s (g.1, g.2) refl (feeds g.0 k.phase k s g.4.2 h) g.5 in
+      let more : g.3 ≡ sent_after answers (rule answers e s).0 es = sends_on es g.1 (rule answers e s).0 g.3 one.1 g.6 in
+      g.7 ∙ (ap (λ (os : List Output). os ++ g.3) one.0 ∙ ap (λ (os : List Output). (rule answers e s).1 ++ os) more)
 
 -- a client that was offered
 begun : (at secs client : ℕ) (addr : SocketAddr) (settings : Settings) (answers : Serving)

@@ -4,13 +4,14 @@ use Rattle.std.specs.Prelude.{slice_get, slice_set, min, not, ◌&&◌, if◌the
 use Rattle.dns_events.specs.declared.event.Output.{Output}
 use Rattle.dns_events.specs.declared.event.Why.{Why}
 use Rattle.dns_framing.specs.Frames.{frames, behind_frames}
+use Rattle.dns_framing.specs.declared.invoker.ConnectionInvoker.{ConnectionInvoker}
 use Rattle.dns_session.specs.Connections.{close, in_transaction}
 use Rattle.dns_session.specs.Requests.{most_requests}
 use Rattle.dns_session.specs.Slate.{Slate, SlateRequest, Effect, Phase, Open, Flushing, Closed, Conf, with_conf}
 use Rattle.dns_session.proofs.Transactions.{passing, recount_one}
 use Rattle.dns_embed.specs.declared.connection.Connection.{Connection}
-use Rattle.dns_embed.specs.Caller.{Caller, Sending, closed, feeding}
-use Rattle.dns_embed.specs.Connections.{unless_closing}
+use Rattle.dns_embed.specs.Caller.{Caller, Sending, closed}
+use Rattle.dns_embed.specs.Connections.{SameQueue, at_moment, unless_closing}
 use Rattle.dns_embed.specs.Transactions.{counted}
 use Rattle.dns_embed.specs.Turned.{ShowsIn}
 
@@ -83,35 +84,42 @@ pub conf_flushing : (why : Why) (conf : Conf) (k : Caller) (s : Slate) → IsFlu
 conf_flushing why conf k s h = record { here = h.here; client = h.client; phase = h.phase; write_timeout = h.write_timeout; queue = h.queue }
 
 -- octets that are fed change nothing of this
-fed_open : (o : List ℕ) (b : Bool) (k : Caller) (s : Slate) → IsOpenFor k s
-    → IsOpenFor (record k { connection = (if b then k.connection else record k.connection { framer = k.connection.framer ++ o }) }) s
-fed_open o true k s h = h
-fed_open o false k s h = record {
+fed_open : (d : Connection) (k : Caller) (s : Slate) → SameQueue (at_moment 0 k.connection) (at_moment 0 d) → IsOpenFor k s → IsOpenFor (record k { connection = d }) s
+fed_open d k s same h = record {
   here = h.here;
   client = h.client;
   addr = h.addr;
   phase = h.phase;
-  is_open = h.is_open;
-  shows = h.shows;
-  timer = h.timer;
-  write_timeout = h.write_timeout;
+  is_open = same.is_closing ∙ h.is_open;
+  shows = record {
+    queue = ap (λ (i : ConnectionInvoker). i.queue) same.invoker ∙ h.shows.queue;
+    budget = ap (λ (i : ConnectionInvoker). i.budget) same.invoker ∙ h.shows.budget;
+    idle_timeout = ap (λ (i : ConnectionInvoker). i.idle_timeout) same.invoker ∙ h.shows.idle_timeout;
+  };
+  timer = same.timer ∙ h.timer;
+  write_timeout = same.write_timeout ∙ h.write_timeout;
   requests = h.requests;
-  transactions = h.transactions;
+  transactions = same.transactions ∙ h.transactions;
   few = h.few;
   taken = h.taken;
   whole = h.whole;
 }
 
-fed_flushing : (o : List ℕ) (why : Why) (b : Bool) (k : Caller) (s : Slate) → IsFlushingFor why k s
-    → IsFlushingFor why (record k { connection = (if b then k.connection else record k.connection { framer = k.connection.framer ++ o }) }) s
-fed_flushing o why true k s h = h
-fed_flushing o why false k s h = record { here = h.here; client = h.client; phase = h.phase; write_timeout = h.write_timeout; queue = h.queue }
+fed_flushing : (why : Why) (d : Connection) (k : Caller) (s : Slate) → SameQueue (at_moment 0 k.connection) (at_moment 0 d) → IsFlushingFor why k s
+    → IsFlushingFor why (record k { connection = d }) s
+fed_flushing why d k s same h = record {
+  here = h.here;
+  client = h.client;
+  phase = h.phase;
+  write_timeout = same.write_timeout ∙ h.write_timeout;
+  queue = ap (λ (i : ConnectionInvoker). i.queue.items) same.invoker ∙ h.queue;
+}
 
-pub feeds : (o : List ℕ) (p : Phase) (k : Caller) (s : Slate) → StandsIn p k s → StandsIn p (feeding o k) s
-feeds o Open k s h = fed_open o k.connection.is_closing k s h
-feeds o (Flushing why) k s h = fed_flushing o why k.connection.is_closing k s h
-feeds o Closed k s h = h
-feeds o _ k s h = absurd h
+pub feeds : (d : Connection) (p : Phase) (k : Caller) (s : Slate) → SameQueue (at_moment 0 k.connection) (at_moment 0 d) → StandsIn p k s → StandsIn p (record k { connection = d }) s
+feeds d Open k s same h = fed_open d k s same h
+feeds d (Flushing why) k s same h = fed_flushing why d k s same h
+feeds d Closed k s same h = h
+feeds d _ k s same h = absurd h
 
 -- one that isn't to be closed goes on
 pub goes : (c d : Connection) → c.is_closing ≡ false → unless_closing c d ≡ d

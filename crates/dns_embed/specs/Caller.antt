@@ -1,6 +1,6 @@
 -- Who makes the calls of one client's connection: what it has of the client, and by which call it follows each event that the client
--- hears. A frame is sent once it was written, and the connection is closed where a call says so. The answers are those of the wrapped
--- service, by request and poll.
+-- hears. A frame is sent once it was written, and the connection is closed where a call says so. A call that takes, queues and writes
+-- nothing, as without memory, is no event. The answers are those of the wrapped service, by request and poll.
 use Rattle.std.specs.Prelude.{◌≡◌, ℕ, ◌⊎◌, ◌==◌, List, [], ◌∷◌, ◌++◌, length, nat_lt, slice_get, slice_set, MatchBool, if◌then◌else◌, false, Option, Some, None}
 use Rattle.dns_name.specs.declared.address.SocketAddr.{SocketAddr}
 use Rattle.dns_events.specs.declared.event.Event.{Event}
@@ -30,7 +30,7 @@ use Rattle.dns_embed.specs.declared.connection.Next.TheVariants.{Query, Short}
 use Rattle.dns_embed.specs.declared.connection.Written.{Written}
 use Rattle.dns_embed.specs.declared.connection.Written.TheVariants as Written_as
 use Rattle.dns_embed.specs.declared.transactions.Heard.TheVariants.{Nothing, Feedback}
-use Rattle.dns_embed.specs.Connections.{NextIs, WriteIs, closing, configured, is_idle, offering, opened, unless_closing, waiting}
+use Rattle.dns_embed.specs.Connections.{NextIs, SameQueue, WriteIs, at_moment, closing, configured, is_idle, offering, opened, unless_closing, untaken, waiting}
 use Rattle.dns_embed.specs.Transactions.{enqueued_of, giving, status_of}
 use Rattle.dns_embed.specs.Turned.{frame_for, heard_of, kept_frame, past_item}
 
@@ -55,9 +55,9 @@ closed why k = (record k { phase = Closed; requests = [] }, Closed_output k.clie
 
 -- ---- octets
 
--- they are fed
-abbrev pub feeding : List ℕ → Caller → Caller
-feeding o k = record k { connection = unless_closing k.connection (record k.connection { framer = k.connection.framer ++ o }) }
+-- those that were fed stand behind those that weren't taken, and all else but the moment is as it was
+abbrev pub IsFed : Connection → Connection → Type 0
+IsFed c d = (o : List ℕ) × (untaken d ≡ untaken c ++ o) × SameQueue (at_moment 0 c) (at_moment 0 d)
 
 -- a query is a request, unless most of them were made
 abbrev pub asked : ℕ → ℕ → List ℕ → Caller → List SlateRequest
@@ -103,12 +103,14 @@ IsGiven at r item c d =
 abbrev pub past_given : ℕ → SlateRequest → Item → Connection → SlateRequest
 past_given at r item c =
     let frame = frame_for r.request.octets item in
-    past_item item (status_of at r.status (heard_of item) frame c) (kept_frame (enqueued_of at r.status (heard_of item) frame c) frame None) r
+    let enqueued = enqueued_of at r.status (heard_of item) frame c in
+    past_item item (status_of at r.status (heard_of item) frame c) (kept_frame enqueued frame None) r
 
 abbrev pub IsAnswered : ℕ → ℕ → Answer → SlateRequest → Caller → Sending → Type 0
 IsAnswered at n Pending r k x = x ≡ turned n (answered Pending r) k.connection k
 IsAnswered at n (Ready None) r k x = x ≡ turned n (answered (Ready None) r) (ending at r k.connection) k
-IsAnswered at n (Ready (Some item)) r k x = (d : Connection) × IsGiven at r item k.connection d × (x ≡ turned n (past_given at r item k.connection) d k)
+IsAnswered at n (Ready (Some item)) r k x = (d : Connection) × IsGiven at r item k.connection d
+    × (x ≡ turned n (past_given at r item k.connection) d k)
 
 -- a reply that was held is given again, until it is queued
 abbrev pub held_on : Option Enqueued → List ℕ → Option (List ℕ)
@@ -138,7 +140,8 @@ wrote _ m d k = goes_on d k
 -- behind the last frame of one that is to be closed `front` says that it is closed
 abbrev pub wrote_last : Why → Written → Option (List ℕ) → Connection → Caller → Sending
 wrote_last why Written_as.Frame (Some m) d k =
-    if length d.invoker.queue.items == 0 then ((closed why k).0, Frame k.client m ∷ (closed why k).1) else wrote Written_as.Frame (Some m) d k
+    if length d.invoker.queue.items == 0 then ((closed why k).0, Frame k.client m ∷ (closed why k).1)
+    else wrote Written_as.Frame (Some m) d k
 wrote_last why w m d k = wrote w m d k
 
 abbrev pub Writes : (Written → Option (List ℕ) → Connection → Caller → Sending) → ℕ → ℕ → Caller → Sending → Type 0
@@ -179,11 +182,11 @@ module _ (answers : Serving) where
   Call e (Flushing why) k x = FlushingCall why e e.kind k x
   Call e _ k x = x ≡ (k, [])
 
-  -- before each event octets may be fed
+  -- event by event; before each of them octets may be fed, or calls made that are no event
   abbrev pub Sends : List Event → Caller → List Output → Type 0
   Sends [] k outs = outs ≡ []
-  Sends (e ∷ es) k outs = (o : List ℕ) × (l : Caller) × (now : List Output) × (later : List Output)
-      × Call e k.phase (feeding o k) (l, now) × Sends es l later × (outs ≡ now ++ later)
+  Sends (e ∷ es) k outs = (d : Connection) × (l : Caller) × (now : List Output) × (later : List Output) × IsFed k.connection d
+      × Call e k.phase (record k { connection = d }) (l, now) × Sends es l later × (outs ≡ now ++ later)
 
 -- of a client that was offered, by the settings of a server
 abbrev pub beginning : ℕ → ℕ → SocketAddr → Settings → Caller
