@@ -32,7 +32,7 @@ enum nutscythe_status {
     NUTSCYTHE_NOTHING = 2,       /* nothing is to be sent, to be taken or to be written */
     NUTSCYTHE_ASK = 3,           /* a service is to be asked, and its reply rewritten */
     NUTSCYTHE_RESPONSE = 4,      /* a response came, and was answered with FORMERR if there was room */
-    NUTSCYTHE_DROPPED = 5,       /* the queue or the response budget had no room for a reply, or nobody waits for it */
+    NUTSCYTHE_DROPPED = 5,       /* the queue or the response budget had no room for a reply, or it is to be closed */
     NUTSCYTHE_CLOSE = 6,         /* the connection is to be closed */
     NUTSCYTHE_HELD = 7,          /* a reply of a transaction waits for room: give it again once a frame was written */
     NUTSCYTHE_NO_MEMORY = 16,
