@@ -513,7 +513,8 @@ static inline uint32_t nutscythe_book_call(nutscythe_book *book, uint32_t call)
 }
 
 /* Lets a connection or a book take the configurations in settings, which may go afterwards. A connection's queue keeps its
- * bound, and what was spent of its response budget stays. A book that was shut down stays.
+ * bound, and what was spent of its response budget stays. A book that was shut down stays, and so does a connection that is to
+ * be closed.
  * gives: DONE.
  * refuses: OUT_OF_RANGE if a book took 2^64 - 1 others; NO_HANDLE if either handle holds something else; NULL_POINTER. */
 static inline uint32_t nutscythe_configure(nutscythe_settings *settings, nutscythe_handle *handle)
