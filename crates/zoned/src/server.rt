@@ -1,9 +1,11 @@
 //! A server: generation after generation at the listeners.
 
-use crate::control::{Caller, Control, Order};
 use crate::load::report;
+use crate::orders::{Order, hear};
 use crate::served::Served;
+use anyhow::Context;
 use dns_config::Config;
+use dns_control::{Caller, Control};
 use dns_listener::{
     Counters, Listener, Offer, Running, bind_all, close_all, has_ended, say_listeners, take_back,
 };
@@ -49,6 +51,7 @@ struct Server {
     notifier: Notifier,
     counters: Counters,
     control: Option<Control>,
+    stopper: Option<Caller>,
     phase: Phase,
 }
 
@@ -67,7 +70,12 @@ fn open_control<R: Net + Files>(
     config: &Config,
 ) -> anyhow::Result<Option<Control>> {
     match &config.control {
-        Some(path) => Ok(Some(Control::bind(machine, alloc, path.as_str())?)),
+        Some(path) => {
+            let control = Control::bind(machine, alloc, path.as_str()).context(format_args!(
+                "control {path}"
+            ))?;
+            Ok(Some(control))
+        }
         None => Ok(None),
     }
 }
@@ -89,6 +97,7 @@ impl Server {
             notifier: Notifier::new(alloc),
             counters,
             control: None,
+            stopper: None,
             phase: Phase::Serving,
         })
     }
@@ -204,16 +213,20 @@ impl Server {
         }
     }
 
+    /// Nothing more is to be served. Who asks for it hears so once the server has ended.
+    fn stop(&mut self, caller: Caller) {
+        self.phase = Phase::Stopped;
+        self.stopper = Some(caller);
+    }
+
     /// Does what a caller asks.
-    fn obey(&mut self, rt: &HostRuntime, caller: &mut Caller) -> anyhow::Result<()> {
-        match caller.order(rt.alloc())? {
-            Some(Order::Status) => self.say_status(rt, caller)?,
-            Some(Order::Transfers) => self.say_transfers(rt.alloc(), caller)?,
-            Some(Order::Reload) => self.reload(rt, caller)?,
-            Some(Order::Stop) => {
-                self.phase = Phase::Stopped;
-                caller.say("ok\n")?;
-            }
+    fn obey(&mut self, rt: &HostRuntime, caller: Caller) -> anyhow::Result<()> {
+        let mut caller = caller;
+        match hear(rt.alloc(), &mut caller)? {
+            Some(Order::Status) => self.say_status(rt, &mut caller)?,
+            Some(Order::Transfers) => self.say_transfers(rt.alloc(), &mut caller)?,
+            Some(Order::Reload) => self.reload(rt, &mut caller)?,
+            Some(Order::Stop) => self.stop(caller),
             None => caller.say("no such order\n")?,
         }
         Ok(())
@@ -225,8 +238,8 @@ impl Server {
             Some(control) => control.caller(),
             None => None,
         };
-        if let Some(mut caller) = caller {
-            if let Err(fault) = self.obey(rt, &mut caller) {
+        if let Some(caller) = caller {
+            if let Err(fault) = self.obey(rt, caller) {
                 error!(rt; "control: {fault:#}");
             }
         }
@@ -331,16 +344,25 @@ impl Server {
         Ok(())
     }
 
-    /// Ends the checks of copies, and removes the control socket.
-    fn end<R: Files + Threads>(self, machine: &R) {
+    /// Ends the checks of copies, removes the control socket, and tells who asked for the end that it has come, and whether a fault
+    /// did.
+    fn end<R: Files + Threads>(self, machine: &R, is_without_fault: bool) {
         let Server {
             copies,
             control,
+            stopper,
             ..
         } = self;
         copies.end(machine);
         if let Some(control) = control {
             control.remove(machine);
+        }
+        if let Some(mut caller) = stopper {
+            let _ = caller.say(if is_without_fault {
+                "ok\n"
+            } else {
+                "ended with a fault\n"
+            });
         }
     }
 }
@@ -351,6 +373,6 @@ pub(crate) fn serve<
 >(machine: R, rt: &HostRuntime, path: &str) -> anyhow::Result<()> {
     let mut server = Server::new(rt, path)?;
     let outcome = server.run(machine, rt);
-    server.end(&machine);
+    server.end(&machine, outcome.is_ok());
     outcome
 }
