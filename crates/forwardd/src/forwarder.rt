@@ -13,7 +13,7 @@ use crate::place::{Drawn, Place};
 use crate::port::Port;
 use crate::token::Source;
 use dns_cache::Cache;
-use dns_fronts::{CachedFront, LayeredFront};
+use dns_fronts::{CachedFront, ServerFront};
 use dns_name::{Octets, OutOfMemory};
 use dns_outside::{Clock, HostClock};
 use dns_outstanding::Outstanding;
@@ -45,7 +45,7 @@ pub(crate) struct Forwarder<R> {
     pub(crate) poll: Poll,
     pub(crate) clients: Clients,
     upstreams: Upstreams,
-    pub(crate) proxy: Proxy<CachedFront>,
+    pub(crate) proxy: Proxy<ServerFront<CachedFront>>,
     pub(crate) places: Vec<Option<Place>>,
     pub(crate) ports: Vec<Option<Port>>,
     pub(crate) outstanding: Outstanding,
@@ -59,12 +59,12 @@ fn proxy_of(
     alloc: Global,
     config: &Config,
     seed: RandomState,
-) -> Result<Proxy<CachedFront>, OutOfMemory> {
+) -> Result<Proxy<ServerFront<CachedFront>>, OutOfMemory> {
     let settings = config.server.settings(alloc)?;
     let dgram = settings.dgram;
     let cache = Cache::new_with_seed(alloc, config.replies(), seed)?;
     let required = networks(alloc, config.required.as_slice())?;
-    let front = CachedFront::new(LayeredFront::new(settings, required), cache);
+    let front = ServerFront::new(settings, required, cache);
     Ok(Proxy::new(alloc, front, dgram, config.limits.queries()))
 }
 
@@ -120,7 +120,7 @@ impl Sockets {
 #[derive(Drop)]
 struct Core {
     upstreams: Upstreams,
-    proxy: Proxy<CachedFront>,
+    proxy: Proxy<ServerFront<CachedFront>>,
 }
 
 impl Core {
