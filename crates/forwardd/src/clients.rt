@@ -177,6 +177,11 @@ impl Clients {
         Ok(())
     }
 
+    /// How many messages wait.
+    pub(crate) fn count_waiting(&self) -> usize {
+        self.waiting.len()
+    }
+
     /// Takes the message that waits first.
     pub(crate) fn next_waiting(&mut self) -> Option<Waiting> {
         self.waiting.pop_front()

@@ -274,9 +274,9 @@ impl<R: Net + rt::Clock + RandomSource + Copy> Forwarder<R> {
         }
     }
 
-    /// Begins with the messages that wait, as far as there is room.
+    /// Begins with each of the messages that wait, as far as there is room.
     pub(crate) fn begin_waiting(&mut self) {
-        for _ in 0..BATCH {
+        for _ in 0..self.clients.count_waiting() {
             let Some(Waiting { client, octets }) = self.clients.next_waiting() else {
                 return;
             };
