@@ -186,6 +186,7 @@ impl<R: Net + rt::Clock + RandomSource + Copy> Forwarder<R> {
         }
         self.tick_all();
         self.close_idle();
+        self.accept_again();
         Ok(())
     }
 
@@ -230,15 +231,33 @@ impl<R: Net + rt::Clock + RandomSource + Copy> Forwarder<R> {
         self.clients.receive_on(self.poll.registry(), listener);
     }
 
-    /// Takes the connections of clients that came at a listener.
+    /// Takes the connections of clients that came at a listener. Where that failed and some may be left, they are taken again later.
     fn take_connections(&mut self, listener: usize) {
         let (at, _) = self.clock.latest();
+        let mut failed = false;
         for _ in 0..BATCH {
-            if !self.clients.accept(self.poll.registry(), listener, at) {
-                return;
+            match self.clients.accept(self.poll.registry(), listener, at) {
+                Ok(true) => {}
+                Ok(false) => return,
+                Err(_) => failed = true,
             }
         }
-        self.clients.accept_on(self.poll.registry(), listener);
+        if failed {
+            self.clients.accept_later(listener, at);
+        } else {
+            self.clients.accept_on(self.poll.registry(), listener);
+        }
+    }
+
+    /// Takes the connections at each listener where that failed, once it is due.
+    fn accept_again(&mut self) {
+        let (at, _) = self.clock.latest();
+        for _ in 0..self.clients.count_listeners() {
+            match self.clients.next_again(at) {
+                Some(listener) => self.take_connections(listener),
+                None => return,
+            }
+        }
     }
 
     /// Takes the requests that came over the connection of a client.
