@@ -8,6 +8,7 @@ use mio::{Events, Interest, Poll, Token, Waker};
 use std::alloc::Global;
 use std::hash::RandomState;
 use std::io;
+use std::io::ErrorKind;
 use std::net::{Net, SocketAddr};
 use std::random::RandomSource;
 use std::rt::Clock;
@@ -31,13 +32,14 @@ const ACCEPTS: usize = 64;
 /// After how many seconds a connection is closed whatever came.
 const SECONDS: u64 = 5;
 
-/// What a thread serves: a listener, its connections, and what is measured.
+/// What a thread serves: a listener, whether connections are to be taken again there, its connections, and what is measured.
 #[derive(Drop)]
 struct Serving<R, M> {
     machine: R,
     alloc: Global,
     poll: Poll,
     listener: TcpListener,
+    again: bool,
     visits: Visits,
     since: Instant,
     measured: M,
@@ -62,21 +64,26 @@ impl<R: Clock + RandomSource, M: Measured> Serving<R, M> {
         Ok(())
     }
 
-    /// Takes the connections that came. One more than there may be is closed at once, and so is one that can't be heard of.
+    /// Takes a connection that came, if there is one. One more than there may be is closed at once, and so is one that can't be
+    /// registered.
+    fn accept_one(&mut self, now: u64) -> io::Result<()> {
+        let (stream, _) = self.listener.accept()?;
+        if let Some(number) = self.visits.free_number() {
+            let _ = self.keep(number, stream, now);
+        }
+        Ok(())
+    }
+
+    /// Takes the connections that came. If the system has no descriptor or memory for one, or more came than are taken in a row, they
+    /// are taken again after the next wait.
     fn accept(&mut self, now: u64) {
+        self.again = true;
         for _ in 0..ACCEPTS {
-            let Ok((stream, _)) = self.listener.accept() else {
+            if let Err(error) = self.accept_one(now) {
+                self.again = !matches!(error.kind(), ErrorKind::WouldBlock);
                 break;
-            };
-            if let Some(number) = self.visits.free_number() {
-                let _ = self.keep(number, stream, now);
             }
         }
-        let token = Token(LISTENER);
-        let _ = self
-            .poll
-            .registry()
-            .reregister(&mut self.listener, token, Interest::READABLE);
     }
 
     /// Goes on with the connection of a number.
@@ -90,7 +97,7 @@ impl<R: Clock + RandomSource, M: Measured> Serving<R, M> {
 
     /// How long nothing is due.
     fn wait(&self) -> Option<Duration> {
-        if self.visits.is_empty() {
+        if self.visits.is_empty() && !self.again {
             return None;
         }
         Some(Duration::from_secs(1))
@@ -107,6 +114,9 @@ impl<R: Clock + RandomSource, M: Measured> Serving<R, M> {
                 LISTENER => self.accept(now),
                 number => self.go_on(number.saturating_sub(FIRST)),
             }
+        }
+        if self.again {
+            self.accept(now);
         }
         self.visits.close_late(now);
         Ok(true)
@@ -154,6 +164,7 @@ impl Endpoint {
             alloc,
             poll,
             listener,
+            again: false,
             visits: Visits::new(alloc)?,
             since: Instant::now(&machine)?,
             measured,
