@@ -55,6 +55,19 @@ fn reply_numbers(counts: &ReplyCounts, code: &'static str, number: Rcode) -> Rep
     }
 }
 
+/// How many replies had each response code that is told.
+fn all_replies(counts: &ReplyCounts) -> [ReplyNumbers; 7] {
+    [
+        reply_numbers(counts, "NOERROR", Rcode::NOERROR),
+        reply_numbers(counts, "FORMERR", Rcode::FORMERR),
+        reply_numbers(counts, "SERVFAIL", Rcode::SERVFAIL),
+        reply_numbers(counts, "NXDOMAIN", Rcode::NXDOMAIN),
+        reply_numbers(counts, "NOTIMP", Rcode::NOTIMP),
+        reply_numbers(counts, "REFUSED", Rcode::REFUSED),
+        reply_numbers(counts, "NOTAUTH", Rcode::NOTAUTH),
+    ]
+}
+
 /// Logs what became of a question for a transfer.
 fn log_note<R: Log>(rt: &R, note: &TransferNote) {
     let client = SocketAddrText(note.client);
@@ -102,17 +115,8 @@ impl Counters {
 
     /// What was counted so far.
     pub fn numbers(&self) -> Numbers {
-        let counts: &ReplyCounts = &self.replies;
         Numbers {
-            replies: [
-                reply_numbers(counts, "NOERROR", Rcode::NOERROR),
-                reply_numbers(counts, "FORMERR", Rcode::FORMERR),
-                reply_numbers(counts, "SERVFAIL", Rcode::SERVFAIL),
-                reply_numbers(counts, "NXDOMAIN", Rcode::NXDOMAIN),
-                reply_numbers(counts, "NOTIMP", Rcode::NOTIMP),
-                reply_numbers(counts, "REFUSED", Rcode::REFUSED),
-                reply_numbers(counts, "NOTAUTH", Rcode::NOTAUTH),
-            ],
+            replies: all_replies(&self.replies),
             connections: self.queries.connections(),
             dropped: self.queries.dropped(),
             begun: self.notes.begun(),

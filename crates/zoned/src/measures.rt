@@ -57,11 +57,11 @@ impl Shown {
 
 /// Labels, each of a name and a value.
 fn labels(alloc: Global, pairs: &[(&str, &str)]) -> Result<Vec<Label>, MetricError> {
-    let mut labels = Vec::new(alloc);
-    for (name, value) in pairs {
-        labels.push(Label::new(alloc, name, value)?)?;
+    let mut all = Vec::new(alloc);
+    for pair in pairs {
+        all.push(Label::new(alloc, pair.0, pair.1)?)?;
     }
-    Ok(labels)
+    Ok(all)
 }
 
 /// A metric that has one value.
@@ -128,8 +128,8 @@ fn serials(alloc: Global, zones: &[ShownZone]) -> Result<Family, MetricError> {
     let mut family = Family::new(alloc, "zoned_zone_serial", help, MetricKind::Gauge)?;
     for zone in zones {
         if let Some(serial) = zone.serial {
-            let zone = labels(alloc, &[("zone", zone.name.as_str())])?;
-            family.add(zone, serial as u64)?;
+            let under = labels(alloc, &[("zone", zone.name.as_str())])?;
+            family.add(under, serial as u64)?;
         }
     }
     Ok(family)
@@ -140,8 +140,8 @@ fn records(alloc: Global, zones: &[ShownZone]) -> Result<Family, MetricError> {
     let help = "How many records a zone has.";
     let mut family = Family::new(alloc, "zoned_zone_records", help, MetricKind::Gauge)?;
     for zone in zones {
-        let labels = labels(alloc, &[("zone", zone.name.as_str())])?;
-        family.add(labels, zone.records)?;
+        let under = labels(alloc, &[("zone", zone.name.as_str())])?;
+        family.add(under, zone.records)?;
     }
     Ok(family)
 }

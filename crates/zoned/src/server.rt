@@ -350,7 +350,8 @@ impl Server {
     /// Shows the generation that is served in the metrics.
     fn show<R: Wait>(&self, machine: &R, alloc: Global) -> Result<(), AllocError> {
         let shown = Shown::of(alloc, &self.served)?;
-        *self.shown.lock(machine) = shown;
+        let mut kept = self.shown.lock(machine);
+        *kept = shown;
         Ok(())
     }
 
