@@ -32,7 +32,7 @@ enum nutscythe_status {
     NUTSCYTHE_NOTHING = 2,       /* nothing is to be sent, to be taken or to be written */
     NUTSCYTHE_ASK = 3,           /* a service is to be asked, and its reply rewritten */
     NUTSCYTHE_RESPONSE = 4,      /* a response came, and was answered with FORMERR if there was room */
-    NUTSCYTHE_DROPPED = 5,       /* the queue or the response budget had no room for a reply */
+    NUTSCYTHE_DROPPED = 5,       /* the queue or the response budget had no room for a reply, or it is to be closed */
     NUTSCYTHE_CLOSE = 6,         /* the connection is to be closed */
     NUTSCYTHE_HELD = 7,          /* a reply of a transaction waits for room: give it again once a frame was written */
     NUTSCYTHE_NO_MEMORY = 16,
@@ -183,6 +183,7 @@ uint32_t nutscythe_raw_connection_written(nutscythe_connection *connection, size
 uint32_t nutscythe_raw_connection_deadline(nutscythe_connection *connection, size_t connections, uint64_t now,
                                            uint64_t *deadline, size_t deadlines);
 uint32_t nutscythe_raw_connection_tick(nutscythe_connection *connection, size_t connections, uint64_t now);
+uint32_t nutscythe_raw_connection_close(nutscythe_connection *connection, size_t connections);
 uint32_t nutscythe_raw_book_open(nutscythe_settings *settings, size_t handles, nutscythe_book *book, size_t books);
 uint32_t nutscythe_raw_book_call(nutscythe_book *book, size_t books, uint32_t call);
 uint32_t nutscythe_raw_configure(nutscythe_settings *settings, size_t handles, nutscythe_handle *handle, size_t others);
@@ -395,7 +396,7 @@ static inline uint32_t nutscythe_connection_open(nutscythe_settings *settings, u
     return nutscythe_raw_connection_open(settings, settings != NULL, at, connection, connection != NULL);
 }
 
-/* Octets of the stream came. They are copied.
+/* Octets of the stream came. They are copied, and dropped once the connection is to be closed.
  * gives: DONE.
  * refuses: NO_MEMORY, NO_HANDLE, NULL_POINTER; the connection stays. */
 static inline uint32_t nutscythe_connection_feed(nutscythe_connection *connection, const uint8_t *octets, size_t len)
@@ -417,7 +418,8 @@ static inline uint32_t nutscythe_connection_next(nutscythe_connection *connectio
 }
 
 /* Queues a reply of len octets behind those that wait, at a moment in ms. It is copied.
- * gives: DONE. DROPPED: the queue is at its bound, or the response budget is spent; nothing is queued.
+ * gives: DONE. DROPPED: the queue is at its bound, the response budget is spent, or the connection is to be closed; nothing
+ * is queued.
  * refuses: TOO_LONG above 65,535 octets; NO_MEMORY, NO_HANDLE, NULL_POINTER; nothing is queued. */
 static inline uint32_t nutscythe_connection_offer(nutscythe_connection *connection, uint64_t at, const uint8_t *reply,
                                                   size_t len)
@@ -432,7 +434,7 @@ static inline uint32_t nutscythe_connection_offer(nutscythe_connection *connecti
  * gives: DONE: what was to be heard is heard, and the reply is queued. DROPPED: it is heard, but the queue is at its bound,
  * or the response budget is spent. HELD: as DROPPED in a transaction, in which no reply is lost: give it again, with
  * HEAR_NOTHING, once a frame was written, and until then nothing else of this request. NOTHING: the request failed before,
- * and nothing is heard.
+ * or the connection is to be closed, and nothing is heard or queued.
  * refuses: OUT_OF_RANGE for a number *request or heard that is none; TOO_LONG above 65,535 octets; NO_MEMORY, NO_HANDLE,
  * NULL_POINTER; nothing is heard or queued. */
 static inline uint32_t nutscythe_connection_give(nutscythe_connection *connection, uint64_t at, uint32_t *request,
@@ -443,7 +445,8 @@ static inline uint32_t nutscythe_connection_give(nutscythe_connection *connectio
 }
 
 /* Writes the frame that is to be sent next, its length in front. It stays queued.
- * gives: DONE, and the first *frame_len octets of frame are to be sent. NOTHING: none waits.
+ * gives: DONE, and the first *frame_len octets of frame are to be sent. NOTHING: none waits. CLOSE: none waits, and
+ * nutscythe_connection_close was called: the connection is to be closed now.
  * refuses: NO_ROOM, and *frame_len says how many octets are needed; NO_HANDLE, NULL_POINTER. */
 static inline uint32_t nutscythe_connection_front(nutscythe_connection *connection, uint8_t *frame, size_t room,
                                                   size_t *frame_len)
@@ -461,9 +464,9 @@ static inline uint32_t nutscythe_connection_written(nutscythe_connection *connec
     return nutscythe_raw_connection_written(connection, connection != NULL, at, took);
 }
 
-/* The moment in ms at which the connection was idle for too long: call nutscythe_connection_tick then. It may be past while a
- * request is in a transaction, and tick says DONE: don't wait for it meanwhile.
- * gives: DONE, and *deadline.
+/* The moment in ms at which the connection was idle for too long: call nutscythe_connection_tick then.
+ * gives: DONE, and *deadline, which is UINT64_MAX while a request is in a transaction, and once nutscythe_connection_close was
+ * called: there is none then.
  * refuses: NO_HANDLE, NULL_POINTER. */
 static inline uint32_t nutscythe_connection_deadline(nutscythe_connection *connection, uint64_t now, uint64_t *deadline)
 {
@@ -471,11 +474,22 @@ static inline uint32_t nutscythe_connection_deadline(nutscythe_connection *conne
 }
 
 /* Looks at a moment in ms whether the connection was idle for too long, and none of its requests is in a transaction.
- * gives: CLOSE if it was, and the connection is to be closed; else DONE.
+ * gives: CLOSE if it was, and the connection is to be closed; else DONE, as always after nutscythe_connection_close.
  * refuses: NO_HANDLE, NULL_POINTER. */
 static inline uint32_t nutscythe_connection_tick(nutscythe_connection *connection, uint64_t now)
 {
     return nutscythe_raw_connection_tick(connection, connection != NULL, now);
+}
+
+/* The connection is to be closed, by a command or since the server shuts down. Frames that wait may still be sent by
+ * nutscythe_connection_front and nutscythe_connection_written. Nothing else is taken, heard or queued any more, held replies
+ * are given up, and other configurations change nothing.
+ * gives: CLOSE if no frame waits: the connection is to be closed now. DONE: send them until nutscythe_connection_front says
+ * CLOSE.
+ * refuses: NO_HANDLE, NULL_POINTER. */
+static inline uint32_t nutscythe_connection_close(nutscythe_connection *connection)
+{
+    return nutscythe_raw_connection_close(connection, connection != NULL);
 }
 
 /* ---- The book of a server's slots for connections, and other configurations */
@@ -499,7 +513,8 @@ static inline uint32_t nutscythe_book_call(nutscythe_book *book, uint32_t call)
 }
 
 /* Lets a connection or a book take the configurations in settings, which may go afterwards. A connection's queue keeps its
- * bound, and what was spent of its response budget stays. A book that was shut down stays.
+ * bound, and what was spent of its response budget stays. A book that was shut down stays, and so does a connection that is to
+ * be closed.
  * gives: DONE.
  * refuses: OUT_OF_RANGE if a book took 2^64 - 1 others; NO_HANDLE if either handle holds something else; NULL_POINTER. */
 static inline uint32_t nutscythe_configure(nutscythe_settings *settings, nutscythe_handle *handle)

@@ -174,6 +174,8 @@ static void connections(void)
         TRY(NUTSCYTHE_DONE, nutscythe_connection_written(&now.connection, 4, 1));
     }
     TRY(NUTSCYTHE_NOTHING, nutscythe_connection_front(&now.connection, octets, room, &now.len));
+    TRY(NUTSCYTHE_CLOSE, nutscythe_connection_close(&now.connection));
+    TRY(NUTSCYTHE_CLOSE, nutscythe_connection_front(&now.connection, octets, room, &now.len));
 }
 
 static void book(void)

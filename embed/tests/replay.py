@@ -270,15 +270,14 @@ class Play:
 
     def wind_up(self, client, why):
         """It is closed once what waits was written."""
-        library = self.library
-        if library.call("connection_front", client.handle, library.room, library.length) == NOTHING:
+        if self.library.call("connection_close", client.handle) == CLOSE:
             self.close_for(client, why)
         else:
-            client.phase, client.why, client.requests = "flushing", why, []
+            client.phase, client.why = "flushing", why
 
     def piece(self, words, at, secs):
-        """Octets of the stream came."""
-        client, library = self.of(words, "open"), self.library
+        """Octets of the stream came. One that is to be closed drops them."""
+        client, library = self.of(words, "open", "flushing"), self.library
         if client is None:
             return
         library.is_done("connection_feed", client.handle, bytes.fromhex(words[4].replace("-", "")))
@@ -316,7 +315,7 @@ class Play:
         if heard == HEARD["idle"]:
             client.idle = timeout
         status = self.library.call("connection_give", client.handle, at, request.state, heard, timeout, reply)
-        if status not in (DONE, DROPPED, HELD):
+        if status not in (DONE, DROPPED, HELD) and (status, client.phase) != (NOTHING, "flushing"):
             raise ValueError(f"give: status {status}")
         return status
 
@@ -330,12 +329,12 @@ class Play:
             self.close_for(client, "writetimeout")
             return
         self.say("frame", client.number, frame.hex())
-        if client.phase == "flushing":
-            self.wind_up(client, client.why)
+        if library.call("connection_front", client.handle, library.room, library.length) == CLOSE:
+            self.close_for(client, client.why)
 
     def tick(self, words, at, _):
-        """The timer is looked at."""
-        client = self.of(words, "open")
+        """The timer is looked at. One that is to be closed isn't idle."""
+        client = self.of(words, "open", "flushing")
         if client is not None and self.library.call("connection_tick", client.handle, at) == CLOSE:
             self.close_for(client, "idle")
 
@@ -387,13 +386,13 @@ class Play:
 
     def look(self, words, _at, _secs):
         """A client hears of the configurations, if they are new to it, and of a shutdown."""
-        client = self.of(words, "open")
+        client = self.of(words, "open", "flushing")
         if client is None:
             return
         if client.version != self.version:
             client.version, client.idle = self.version, self.script.idle()
             self.library.is_done("configure", self.settings, client.handle)
-        if self.is_over:
+        if self.is_over and client.phase == "open":
             self.wind_up(client, "shutdown")
 
 

@@ -87,6 +87,7 @@ static void nulls(nutscythe_settings *s, nutscythe_connection *c)
     is(nutscythe_connection_deadline(NULL, 1, &deadline), NUTSCYTHE_NULL_POINTER);
     is(nutscythe_connection_deadline(c, 1, NULL), NUTSCYTHE_NULL_POINTER);
     is(nutscythe_connection_tick(NULL, 1), NUTSCYTHE_NULL_POINTER);
+    is(nutscythe_connection_close(NULL), NUTSCYTHE_NULL_POINTER);
     is(nutscythe_connection_give(NULL, 1, &request, 1, 0, seed, 3), NUTSCYTHE_NULL_POINTER);
     is(nutscythe_connection_give(c, 1, NULL, 1, 0, seed, 3), NUTSCYTHE_NULL_POINTER);
     is(nutscythe_reply_begin(seed, seed_len, 0, true, NULL), NUTSCYTHE_NULL_POINTER);
@@ -145,6 +146,44 @@ static void configured(void)
     is(nutscythe_connection_tick(&connection, 207), NUTSCYTHE_CLOSE);
     is(nutscythe_free(&connection), NUTSCYTHE_DONE);
     is(nutscythe_free(&settings), NUTSCYTHE_DONE);
+}
+
+/* A connection that is to be closed: what waits is written, and nothing else happens to it any more. */
+static void closed(nutscythe_settings *s)
+{
+    uint8_t frame[128];
+    size_t len = 77;
+    uint32_t request = NUTSCYTHE_PLAIN;
+    uint64_t deadline = 7;
+    nutscythe_connection connection = NUTSCYTHE_NONE;
+    is(nutscythe_connection_open(s, 1, &connection), NUTSCYTHE_DONE);
+    is(nutscythe_connection_close(&connection), NUTSCYTHE_CLOSE);
+    is(nutscythe_connection_front(&connection, frame, sizeof frame, &len), NUTSCYTHE_CLOSE);
+    is(nutscythe_connection_open(s, 1, &connection), NUTSCYTHE_DONE);
+    is(nutscythe_connection_deadline(&connection, 1, &deadline), NUTSCYTHE_DONE);
+    assert(deadline == 1001);
+    is(nutscythe_connection_give(&connection, 1, &request, NUTSCYTHE_HEAR_BEGIN, 0, seed, seed_len), NUTSCYTHE_DONE);
+    is(nutscythe_connection_deadline(&connection, 1, &deadline), NUTSCYTHE_DONE);
+    assert(deadline == UINT64_MAX);
+    is(nutscythe_connection_feed(&connection, (const uint8_t *)"\0\3abc\0", 6), NUTSCYTHE_DONE);
+    for (int i = 0; i < 2; i++) {
+        is(nutscythe_connection_close(&connection), NUTSCYTHE_DONE);
+        is(nutscythe_connection_feed(&connection, (const uint8_t *)"\0\3abc", 5), NUTSCYTHE_DONE);
+        is(nutscythe_connection_next(&connection, 1, frame, sizeof frame, &len), NUTSCYTHE_NOTHING);
+        is(nutscythe_connection_offer(&connection, 1, seed, seed_len), NUTSCYTHE_DROPPED);
+        is(nutscythe_connection_give(&connection, 1, &request, NUTSCYTHE_HEAR_END, 0, seed, seed_len), NUTSCYTHE_NOTHING);
+        is(nutscythe_connection_tick(&connection, 1000000), NUTSCYTHE_DONE);
+        is(nutscythe_connection_deadline(&connection, 1000000, &deadline), NUTSCYTHE_DONE);
+        is(nutscythe_configure(s, &connection), NUTSCYTHE_DONE);
+        assert(request == NUTSCYTHE_IN_TRANSACTION && deadline == UINT64_MAX && len == 77);
+    }
+    is(nutscythe_connection_front(&connection, frame, sizeof frame, &len), NUTSCYTHE_DONE);
+    assert(len == seed_len + 2 && memcmp(frame + 2, seed, seed_len) == 0);
+    is(nutscythe_connection_written(&connection, 1, 1), NUTSCYTHE_DONE);
+    is(nutscythe_connection_front(&connection, frame, sizeof frame, &len), NUTSCYTHE_CLOSE);
+    is(nutscythe_connection_written(&connection, 1, 1), NUTSCYTHE_NOTHING);
+    is(nutscythe_connection_close(&connection), NUTSCYTHE_CLOSE);
+    is(nutscythe_free(&connection), NUTSCYTHE_DONE);
 }
 
 /* Lengths of 0: octets that are none, and buffers that hold none. */
@@ -212,6 +251,7 @@ static void freed(nutscythe_settings *s)
         }
         is(nutscythe_settings_cookies(&handle, seed, 16), NUTSCYTHE_NO_HANDLE);
         is(nutscythe_connection_front(&handle, octets, sizeof octets, &len), NUTSCYTHE_NO_HANDLE);
+        is(nutscythe_connection_close(&handle), NUTSCYTHE_NO_HANDLE);
         is(nutscythe_reply_write(&handle, &rule, octets, sizeof octets, &len), NUTSCYTHE_NO_HANDLE);
         is(nutscythe_message_next(&handle, octets, sizeof octets, &len, &section), NUTSCYTHE_NO_HANDLE);
         is(nutscythe_book_call(&handle, NUTSCYTHE_RELEASE), NUTSCYTHE_NO_HANDLE);
@@ -279,6 +319,7 @@ static void wrong(nutscythe_settings *s, nutscythe_connection *c)
     is(nutscythe_connection_written(not_connection, 1, 1), NUTSCYTHE_NO_HANDLE);
     is(nutscythe_connection_deadline(not_connection, 1, &deadline), NUTSCYTHE_NO_HANDLE);
     is(nutscythe_connection_tick(not_connection, 1), NUTSCYTHE_NO_HANDLE);
+    is(nutscythe_connection_close(not_connection), NUTSCYTHE_NO_HANDLE);
     is(nutscythe_decide(s, &origin, 3 + (uint32_t)number() % 9, seed, 12, reply, sizeof reply, &len, &rule), NUTSCYTHE_OUT_OF_RANGE);
     origin.family = (uint8_t)(number() % 2 ? 5 : 7 + number() % 200);
     is(nutscythe_decide(s, &origin, 0, seed, 12, reply, sizeof reply, &len, &rule), NUTSCYTHE_OUT_OF_RANGE);
@@ -405,6 +446,7 @@ int main(int argc, char **argv)
         empty(&settings);
         freed(&settings);
         configured();
+        closed(&settings);
         wrong(&settings, &connection);
     } while (made < calls);
     calls = made;

@@ -1,5 +1,5 @@
 -- What is done as the layers decided is what they answer.
-use Rattle.std.proofs.Common.{zero, suc, refl, ap, ◌≡◌, ◌≤◌, ◌++◌, [], ◌∷◌, ℕ, List, length, Bool, true, false, Option, Some, None, option_map, ◌∙◌, sym, subst, Result, Ok, Err, IfOk}
+use Rattle.std.proofs.Common.{zero, suc, refl, ap, ◌≡◌, ◌≤◌, [], ◌∷◌, ℕ, List, length, Bool, true, false, Option, Some, None, option_map, ◌∙◌, sym, subst, Result, Ok, Err, IfOk}
 use Rattle.std.specs.Prelude.{nat_lt, unwrap_or}
 use Rattle.std.proofs.lemmas.Bool.{le-ltb}
 use Rattle.dns_name.specs.declared.address.SocketAddr.{SocketAddr}
@@ -16,7 +16,7 @@ use Rattle.dns_service.specs.Answer.{Answer, mapped}
 use Rattle.dns_service.specs.Asked.{asked_of}
 use Rattle.dns_service.specs.Once.{once}
 use Rattle.dns_service.specs.Req.{Req}
-use Rattle.dns_service.specs.Transport.{hinted, hint_of, limit}
+use Rattle.dns_service.specs.Transport.{hinted, limit}
 use Rattle.dns_layers.specs.declared.notice.Notice.{Notice}
 use Rattle.dns_layers.specs.declared.notifiable.NotifyError.{NotifyError}
 use Rattle.dns_layers.specs.declared.refusal.Refusal.{Refusal}

@@ -1,6 +1,6 @@
 -- What is given of a request is what the rules for one client say of a turn of it.
-use Rattle.std.proofs.Common.{refl, ap, sym, subst, ◌≡◌, ◌∙◌, ℕ, ◌+◌, ◌++◌, ◌∷◌, [], List, Bool, true, false, Option, Some, None, Ok, Err, option_map}
-use Rattle.std.specs.Prelude.{if◌then◌else◌, ◌&&◌, slice_set}
+use Rattle.std.proofs.Common.{refl, ap, sym, subst, ◌≡◌, ◌∙◌, ℕ, List, Bool, true, false, Option, Some, None, Ok, Err, option_map}
+use Rattle.std.specs.Prelude.{if◌then◌else◌}
 use Rattle.circular_buffer.specs.Buffer.{Buffer, buffer}
 use Rattle.dns_base.specs.Msg.{Msg}
 use Rattle.dns_base.specs.Wire.{wire}
@@ -12,18 +12,16 @@ use Rattle.dns_service.specs.declared.invoker.InvokerStatus.{InvokerStatus}
 use Rattle.dns_service.specs.declared.service.Polled.TheVariants.{Ready}
 use Rattle.dns_service.specs.declared.service.ServiceFeedback.{ServiceFeedback}
 use Rattle.dns_service.specs.declared.service.ServiceFeedback.TheVariants.{Reconfigure, BeginTransaction, EndTransaction}
-use Rattle.dns_framing.specs.Budget.{Spending, spend}
+use Rattle.dns_framing.specs.Budget.{Spending}
 use Rattle.dns_framing.specs.Frames.{framed}
 use Rattle.dns_framing.specs.Invoker.{begun_with, finds_room, queued_behind}
 use Rattle.dns_framing.specs.Transactions.{is_in_transaction}
 use Rattle.dns_framing.specs.declared.invoker.ConnectionInvoker.{ConnectionInvoker}
 use Rattle.dns_session.specs.Connections.{append_frame, room, spending}
 use Rattle.dns_session.specs.Heard.{answer_status, answer_timeout, status_after_some, timeout_after_some}
-use Rattle.dns_session.specs.Serving.{Serving}
 use Rattle.dns_session.specs.Slate.{Slate, SlateRequest}
-use Rattle.dns_session.specs.Turns.{answered, ends, hold, queue_reply, reply_to, retimed, turn_request, with_request}
-use Rattle.dns_embed.specs.declared.connection.Connection.{Connection}
-use Rattle.dns_embed.specs.Transactions.{enqueued_as, giving, hearing, invoker_hearing, queueing}
+use Rattle.dns_session.specs.Turns.{answered, queue_reply, reply_to, retimed, turn_request, with_request}
+use Rattle.dns_embed.specs.Transactions.{enqueued_as, hearing, invoker_hearing, queueing}
 use Rattle.dns_embed.specs.declared.transactions.Heard.TheVariants.{Nothing}
 use Rattle.dns_embed.specs.Turned.{GivesAsTurned, GivesHeldAsTurned, ShowsIn, frame_for, heard_in, heard_of, kept_frame, past_item, shown_by}
 
@@ -89,10 +87,10 @@ queued at k (Some m) r timeout s =
     (sym (enqueued-either i (framed (wire m)) (finds_room i) (is_in_transaction r.status) refl refl))
 
 -- a frame that is queued leaves how far the request is, the bound and the budget
-abbrev Keeps : ConnectionInvoker → ConnectionInvoker → Type 0
+abbrev pub Keeps : ConnectionInvoker → ConnectionInvoker → Type 0
 Keeps i j = (j.status ≡ i.status) × (j.queue.capacity ≡ i.queue.capacity) × (j.budget.allowed ≡ i.budget.allowed) × (j.budget.window ≡ i.budget.window)
 
-keeps : (frame : Option (List ℕ)) (i : ConnectionInvoker) (space : Bool) → finds_room i ≡ space → Keeps i (queueing frame i)
+pub keeps : (frame : Option (List ℕ)) (i : ConnectionInvoker) (space : Bool) → finds_room i ≡ space → Keeps i (queueing frame i)
 keeps None i space e = (refl, refl, refl, refl)
 keeps (Some m) i true e = rw (e) (refl, refl, refl, refl)
 keeps (Some m) i false e = rw (e) (refl, refl, refl, refl)

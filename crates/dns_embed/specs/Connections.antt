@@ -1,21 +1,48 @@
 -- A connection: the frames of its octets in order, each once (RFC 1035, section 4.2.2; RFC 7766, section 8), and its queue of
 -- replies. Each is a part of what the rule of one client (dns_session) does.
-use Rattle.std.specs.Prelude.{ℕ, ◌≡◌, ◌<◌, ◌≤◌, ◌++◌, ◌==◌, ◌&&◌, [], ◌∷◌, Bool, true, false, List, length, drop, slice_get, nat_lt, if◌then◌else◌, Option, Some, None}
+use Rattle.std.specs.Prelude.{ℕ, ◌≡◌, ◌<◌, ◌≤◌, ◌++◌, ◌==◌, ◌&&◌, [], ◌∷◌, Bool, true, false, not, List, length, drop, slice_get, nat_lt, if◌then◌else◌, Option, Some, None}
 use Rattle.circular_buffer.specs.Buffer.{buffer}
 use Rattle.dns_base.specs.Header.{header_of}
 use Rattle.dns_base.specs.Wire.{wire}
 use Rattle.dns_replies.specs.ErrorReply.{error_reply}
-use Rattle.dns_framing.specs.Budget.{rebudgeted}
+use Rattle.dns_framing.specs.Budget.{rebudgeted, unspent}
 use Rattle.dns_framing.specs.Frames.{framed, frames}
-use Rattle.dns_framing.specs.Invoker.{offered}
-use Rattle.dns_framing.specs.Timers.{is_expired}
-use Rattle.dns_framing.specs.declared.invoker.ConnectionInvoker.{ConnectionInvoker}
+use Rattle.dns_framing.specs.Invoker.{finds_room, offered}
+use Rattle.dns_framing.specs.Timers.{deadline, is_expired, last_moment}
 use Rattle.dns_service.specs.Config.{Connection as Config}
+use Rattle.dns_service.specs.declared.invoker.InvokerStatus.TheVariants.{Normal}
 use Rattle.dns_embed.specs.declared.connection.Connection.{Connection}
 use Rattle.dns_embed.specs.declared.connection.Next.{Next}
 use Rattle.dns_embed.specs.declared.connection.Next.TheVariants.{Waits, Query, NoRoom, Response, Short}
 use Rattle.dns_embed.specs.declared.connection.Written.{Written}
 use Rattle.dns_embed.specs.declared.connection.Written.TheVariants as Write
+
+-- a connection of a configuration, of which nothing came yet
+abbrev pub opened : ℕ → Config → Connection
+opened at config = record {
+  front = None;
+  framer = [];
+  timer = at;
+  write_timeout = config.response_write_timeout;
+  invoker = record {
+    at = at;
+    idle_timeout = config.idle_timeout;
+    budget = unspent config;
+    queue = buffer [] config.max_queued_responses;
+    status = Normal;
+    held = None;
+  };
+  transactions = 0;
+  is_closing = false;
+}
+
+-- one that is to be closed keeps its queue, and nothing of what came
+abbrev pub closing : Connection → Connection
+closing c = record c { front = None; framer = []; transactions = 0; is_closing = true }
+
+-- nothing else happens to it any more
+abbrev pub unless_closing : Connection → Connection → Connection
+unless_closing c d = if c.is_closing then c else d
 
 abbrev pub in_front : Option (List ℕ) → List (List ℕ) → List (List ℕ)
 in_front None fs = fs
@@ -37,6 +64,10 @@ untaken c = untaken_by c.front c.framer
 abbrev pub at_moment : ℕ → Connection → Connection
 at_moment at c = record c { invoker = record c.invoker { at = at } }
 
+-- a reply finds room at this moment
+abbrev pub has_room : ℕ → Connection → Bool
+has_room at c = not c.is_closing && finds_room (record c.invoker { at = at })
+
 -- a frame is queued at this moment, if there is room
 abbrev pub offering : ℕ → Connection → List ℕ → Connection
 offering at c m = record c { invoker = offered (record c.invoker { at = at }) m }
@@ -52,9 +83,17 @@ configured config c = record c {
   invoker = record c.invoker { idle_timeout = config.idle_timeout; budget = rebudgeted config c.invoker.budget };
 }
 
--- it was idle for too long (RFC 7766, section 6.2.3), and no transaction holds it open
+-- its timer may close it: no transaction holds it open, and it isn't to be closed anyway
+abbrev pub is_timed : Connection → Bool
+is_timed c = not c.is_closing && (c.transactions == 0)
+
+-- the moment at which it was idle for too long (RFC 7766, section 6.2.3), and else the last one, which is none
+abbrev pub deadline_of : ℕ → Connection → ℕ
+deadline_of now c = if is_timed c then deadline c.timer c.invoker.idle_timeout now else last_moment
+
+-- it was idle for too long
 abbrev pub is_idle : ℕ → Connection → Bool
-is_idle now c = (c.transactions == 0) && is_expired c.timer c.invoker.idle_timeout now
+is_idle now c = is_timed c && is_expired c.timer c.invoker.idle_timeout now
 
 -- all but the octets are as they were
 pub record SameQueue (c d : Connection) : Type 0 where
@@ -62,6 +101,7 @@ pub record SameQueue (c d : Connection) : Type 0 where
   pub write_timeout : d.write_timeout ≡ c.write_timeout
   pub invoker : d.invoker ≡ c.invoker
   pub transactions : d.transactions ≡ c.transactions
+  pub is_closing : d.is_closing ≡ c.is_closing
 
 -- the first frame is taken, and no octet behind it
 abbrev pub IsTaken : List ℕ → Connection → Connection → Type 0

@@ -8,3 +8,4 @@ pub mod Transactions
 pub mod Connections
 pub mod Reading
 pub mod Turned
+pub mod Caller

@@ -2,6 +2,7 @@
 use Rattle.std.specs.Prelude.{ℕ, ◌+◌, ◌-◌, ◌==◌, min, Bool, true, false, List, length, Option, Some, None, if◌then◌else◌}
 use Rattle.dns_service.specs.Invokers.{after_feedback}
 use Rattle.dns_service.specs.declared.invoker.Enqueued.{Enqueued}
+use Rattle.dns_service.specs.declared.invoker.Enqueued.TheVariants.{Dropped}
 use Rattle.dns_service.specs.declared.invoker.InvokerStatus.{InvokerStatus}
 use Rattle.dns_service.specs.declared.invoker.InvokerStatus.TheVariants.{Aborting}
 use Rattle.dns_framing.specs.Frames.{framed}
@@ -32,6 +33,11 @@ abbrev pub enqueued_as : Option (List ℕ) → ConnectionInvoker → Option Enqu
 enqueued_as None i = None
 enqueued_as (Some m) i = Some (enqueued_by i m).1
 
+-- what becomes of it where nobody waits for it any more
+abbrev pub dropped_as : Option (List ℕ) → Option Enqueued
+dropped_as None = None
+dropped_as (Some m) = Some Dropped
+
 -- the connection and the request, which is so far, once that is heard, and with the frame
 abbrev pub invoker_hearing : ℕ → InvokerStatus → Heard → Connection → ConnectionInvoker
 invoker_hearing at status heard c = hearing heard (begun_with status (record c.invoker { at = at }))
@@ -50,3 +56,10 @@ abbrev pub giving : ℕ → InvokerStatus → Heard → Option (List ℕ) → Co
 giving at status heard frame c =
     let i = invoker_given at status heard frame c in
     record c { invoker = i; transactions = counted c.transactions (is_in_transaction status) (is_in_transaction i.status) }
+
+-- how far the request is then, and what became of its reply: of a connection that is to be closed nothing is heard
+abbrev pub status_of : ℕ → InvokerStatus → Heard → Option (List ℕ) → Connection → InvokerStatus
+status_of at status heard frame c = if c.is_closing then status else (invoker_given at status heard frame c).status
+
+abbrev pub enqueued_of : ℕ → InvokerStatus → Heard → Option (List ℕ) → Connection → Option Enqueued
+enqueued_of at status heard frame c = if c.is_closing then dropped_as frame else enqueued_as frame (invoker_hearing at status heard c)

@@ -20,7 +20,7 @@ use Rattle.dns_session.specs.Turns.{ends, turn_request}
 use Rattle.dns_embed.specs.declared.connection.Connection.{Connection}
 use Rattle.dns_embed.specs.declared.transactions.Heard.{Heard}
 use Rattle.dns_embed.specs.declared.transactions.Heard.TheVariants.{Nothing, Feedback, Failure}
-use Rattle.dns_embed.specs.Transactions.{enqueued_as, giving, hearing, invoker_hearing, queueing}
+use Rattle.dns_embed.specs.Transactions.{enqueued_as, giving, invoker_hearing}
 
 -- what is heard of an item
 abbrev pub heard_in : Option ServiceFeedback → Heard

@@ -1,17 +1,12 @@
 //! One connection of a client without its requests: octets in, queries out, replies in, frames out.
 
-ghost use Rattle.std.specs.Prelude.{◌≡◌, ◌≤◌, ◌+◌, ◌++◌, [], None, Some, length, option_map, slice_get, IfOk, OnErr, OnOk};
-ghost use Rattle.circular_buffer.specs.Buffer.{buffer};
-ghost use Rattle.dns_framing.specs.Budget.{unspent};
+ghost use Rattle.std.specs.Prelude.{◌≡◌, ◌≤◌, ◌++◌, [], None, length, not, option_map, slice_get, IfOk, OnErr, OnOk};
 ghost use Rattle.dns_framing.specs.Frames.{framed};
-ghost use Rattle.dns_framing.specs.Invoker.{finds_room, offered};
-ghost use Rattle.dns_framing.specs.Timers.{deadline};
-ghost use Rattle.dns_service.specs.declared.invoker.InvokerStatus.{InvokerStatus as TheStatus};
-ghost use Rattle.dns_embed.specs.Connections.{NextIs, NothingDone, WriteIs, at_moment, configured, is_idle, offering, refusing, untaken, waiting};
-ghost use Rattle.dns_embed.specs.Transactions.{enqueued_as, frame_in, giving, invoker_given, invoker_hearing};
+ghost use Rattle.dns_embed.specs.Connections.{NextIs, NothingDone, WriteIs, at_moment, closing, configured, deadline_of, has_room, is_idle, is_timed, offering, opened, refusing, unless_closing, untaken, waiting};
+ghost use Rattle.dns_embed.specs.Transactions.{enqueued_of, frame_in, giving, status_of};
 
 use crate::buffer::put;
-use crate::transactions::{Heard, enqueue, frame, frame_in, hear, recount};
+use crate::transactions::{Heard, dropped, enqueue, frame, frame_in, hear, recount};
 use dns_base::Message;
 use dns_framing::{ConnectionInvoker, Framer, IdleTimer, frame_of, is_in_transaction};
 use dns_name::OptRcode;
@@ -46,7 +41,8 @@ pub enum Written {
 }
 
 /// What is kept of a connection: the next frame, if it was looked at and not taken; the octets in no frame yet; the idle
-/// timer; how long a write may take in ms; the queue of replies with its budget; and how many requests are in a transaction.
+/// timer; how long a write may take in ms; the queue of replies with its budget; how many requests are in a transaction; and whether
+/// it is to be closed.
 #[derive(Drop)]
 pub struct Connection {
     front: Option<Octets>,
@@ -55,6 +51,7 @@ pub struct Connection {
     write_timeout: u64,
     invoker: ConnectionInvoker,
     transactions: u64,
+    is_closing: bool,
 }
 
 impl Connection {
@@ -64,21 +61,7 @@ impl Connection {
         at: u64,
         config: &ConnectionConfig,
     ) -> Result<Connection, OutOfMemory>
-        ensures { IfOk result (λ c. c ≡ record {
-          front = None;
-          framer = [];
-          timer = at;
-          write_timeout = config.now.response_write_timeout;
-          invoker = record {
-            at = at;
-            idle_timeout = config.now.idle_timeout;
-            budget = unspent config.now;
-            queue = buffer [] config.now.max_queued_responses;
-            status = TheStatus.Normal;
-            held = None;
-          };
-          transactions = 0;
-        }) }
+        ensures { IfOk result (λ c. c ≡ opened at config.now) }
     {
         let invoker = ConnectionInvoker::new(alloc, at, config)?;
         Ok(Connection {
@@ -88,23 +71,30 @@ impl Connection {
             write_timeout: config.response_write_timeout(),
             invoker,
             transactions: 0,
+            is_closing: false,
         })
     }
 
     /// Takes a new configuration. The queue's bound stays, and so does what was spent of the response budget.
     pub fn configure(&mut self, config: &ConnectionConfig)
-        ensures { self.new ≡ configured config.now self.old }
+        ensures { self.new ≡ unless_closing self.old (configured config.now self.old) }
     {
+        if self.is_closing {
+            return;
+        }
         self.invoker.idle_timeout = config.idle_timeout();
         self.invoker.budget.reconfigure(config);
         self.write_timeout = config.response_write_timeout();
     }
 
-    /// Octets of its stream came. If there is no memory all stays.
+    /// Octets of its stream came. They are dropped if it is to be closed. If there is no memory all stays.
     pub fn feed(&mut self, alloc: Global, octets: &[u8]) -> Result<(), OutOfMemory>
-        ensures ok { OnOk result (self.new ≡ record self.old { framer = self.old.framer ++ octets.now }) }
+        ensures ok { OnOk result (self.new ≡ unless_closing self.old (record self.old { framer = self.old.framer ++ octets.now })) }
         ensures err { OnErr result (self.new ≡ self.old) }
     {
+        if self.is_closing {
+            return Ok(());
+        }
         self.framer.feed(alloc, octets)
     }
 
@@ -144,6 +134,7 @@ impl Connection {
         ensures write_timeout { self.new.write_timeout ≡ self.old.write_timeout }
         ensures invoker { self.new.invoker ≡ self.old.invoker }
         ensures transactions { self.new.transactions ≡ self.old.transactions }
+        ensures is_closing { self.new.is_closing ≡ self.old.is_closing }
     {
         if self.front.is_some() {
             return Ok(());
@@ -183,13 +174,16 @@ impl Connection {
     }
 
     /// Queues the octets of a reply of at most 65,535 as a frame, at a moment in ms. It needs room in the queue and in the response
-    /// budget. It says whether they had. If there is no memory the queue stays.
+    /// budget, and a connection that isn't to be closed. It says whether it was queued. If there is no memory the queue stays.
     pub fn offer(&mut self, alloc: Global, at: u64, reply: &[u8]) -> Result<bool, OutOfMemory>
         requires { length reply.now ≤ 65535 }
-        ensures room { IfOk result (λ queued. queued ≡ finds_room (record self.old.invoker { at = at })) }
-        ensures ok { OnOk result (self.new ≡ offering at self.old (framed reply.now)) }
+        ensures room { IfOk result (λ queued. queued ≡ has_room at self.old) }
+        ensures ok { OnOk result (self.new ≡ unless_closing self.old (offering at self.old (framed reply.now))) }
         ensures err { OnErr result (self.new ≡ at_moment at self.old) }
     {
+        if self.is_closing {
+            return Ok(false);
+        }
         self.invoker.set_moment(at);
         if !self.invoker.finds_room() {
             return Ok(false);
@@ -201,7 +195,8 @@ impl Connection {
 
     /// What the service of a request gave, at a moment in ms: what it tells is heard, and then the octets of its reply, at most
     /// 65,535, are queued as a frame, where there is room. No octets are no reply. It says how far the request is then, and what
-    /// became of its reply: one that is Held is given again, with nothing to be heard. If there is no memory all stays.
+    /// became of its reply: one that is Held is given again, with nothing to be heard. Once it is to be closed nothing is heard, and
+    /// the reply is dropped. If there is no memory all stays.
     pub fn give(
         &mut self,
         alloc: Global,
@@ -211,11 +206,14 @@ impl Connection {
         reply: &[u8],
     ) -> Result<(InvokerStatus, Option<Enqueued>), OutOfMemory>
         requires { length reply.now ≤ 65535 }
-        ensures status { IfOk result (λ g. g.0 ≡ (invoker_given at status heard (frame_in reply.now) self.old).status) }
-        ensures enqueued { IfOk result (λ g. g.1 ≡ enqueued_as (frame_in reply.now) (invoker_hearing at status heard self.old)) }
-        ensures ok { OnOk result (self.new ≡ giving at status heard (frame_in reply.now) self.old) }
+        ensures status { IfOk result (λ g. g.0 ≡ status_of at status heard (frame_in reply.now) self.old) }
+        ensures enqueued { IfOk result (λ g. g.1 ≡ enqueued_of at status heard (frame_in reply.now) self.old) }
+        ensures ok { OnOk result (self.new ≡ unless_closing self.old (giving at status heard (frame_in reply.now) self.old)) }
         ensures err { OnErr result (self.new ≡ self.old) }
     {
+        if self.is_closing {
+            return Ok((status, dropped(reply)));
+        }
         let frame = frame_in(alloc, reply)?;
         self.invoker.set_moment(at);
         self.invoker.begin(status);
@@ -261,20 +259,49 @@ impl Connection {
         Written::Frame
     }
 
-    /// The moment in ms at which it was idle for too long. While a request is in a transaction it may be past, and `is_idle` says no.
-    pub fn deadline(&self, now: u64) -> u64
-        ensures { result ≡ deadline self.now.timer self.now.invoker.idle_timeout now }
+    /// Is to be closed, by a command or since the server shuts down: what waits may still be written, and nothing else comes or is
+    /// taken any more. Its requests are no longer served.
+    pub fn close(&mut self, alloc: Global)
+        ensures { self.new ≡ closing self.old }
     {
+        self.front = None;
+        self.framer = Framer::new(alloc);
+        self.transactions = 0;
+        self.is_closing = true;
+    }
+
+    /// Whether it is to be closed. It is closed once no frame waits.
+    pub fn is_closing(&self) -> bool
+        ensures { result ≡ self.now.is_closing }
+    {
+        self.is_closing
+    }
+
+    /// Whether the idle timer may close it: no request is in a transaction, and it isn't to be closed anyway.
+    fn is_timed(&self) -> bool
+        ensures { result ≡ is_timed self.now }
+    {
+        !self.is_closing && self.transactions == 0
+    }
+
+    /// The moment in ms at which it was idle for too long. There is none, which is u64::MAX, while a request is in a transaction, and
+    /// once it is to be closed.
+    pub fn deadline(&self, now: u64) -> u64
+        ensures { result ≡ deadline_of now self.now }
+    {
+        if !self.is_timed() {
+            return u64::MAX;
+        }
         self.timer
             .idle_timeout_deadline(self.invoker.idle_timeout, now)
     }
 
-    /// Whether it was idle for too long by now, and no request is in a transaction.
+    /// Whether it was idle for too long by now, and no request is in a transaction. One that is to be closed isn't idle.
     pub fn is_idle(&self, now: u64) -> bool
         ensures { result ≡ is_idle now self.now }
     {
         let timeout = self.invoker.idle_timeout;
-        self.transactions == 0 && self.timer.idle_timeout_expired(timeout, now)
+        self.is_timed() && self.timer.idle_timeout_expired(timeout, now)
     }
 
     /// For how many ms it may be idle.

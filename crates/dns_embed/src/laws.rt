@@ -11,6 +11,7 @@ ghost use Rattle.dns_layers.specs.Rewritten.{own_reply, reply};
 ghost use Rattle.dns_middleware.specs.Wrapped.{passed};
 ghost use Rattle.dns_embed.specs.declared.action.Action.TheVariants.{Ask};
 ghost use Rattle.dns_embed.specs.declared.rule.ReplyRule.{ReplyRule};
+ghost use Rattle.dns_embed.specs.Caller.{SendsAsRuled};
 ghost use Rattle.dns_embed.specs.Embedded.{IsDecided, answers, rewrite_by};
 ghost use Rattle.dns_embed.specs.Turned.{GivesAsTurned, GivesHeldAsTurned};
 
@@ -27,4 +28,10 @@ pub fn asked_and_rewritten_is_answered()
 pub fn what_is_given_is_a_turn()
     ensures item { GivesAsTurned }
     ensures held { GivesHeldAsTurned }
+{}
+
+/// Whoever calls a connection by what its client's events ask sends what the rules for one client give (dns_session's `rule`), over the
+/// connection's whole life: whatever events come, however the octets are fed, and whatever the service answers.
+pub fn what_is_sent_is_as_ruled()
+    ensures { SendsAsRuled }
 {}

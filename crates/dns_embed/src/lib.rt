@@ -4,8 +4,8 @@
 //!   reply that is sent, or a question to the caller's service. `decide_datagram` does it as a server over datagrams.
 //! - `rewrite_message` makes the octets of a service's reply the reply that is sent, by the `ReplyRule` of its request.
 //!   `refuse_message` is what is sent if the service fails.
-//! - `Connection` takes the octets of a stream and gives its queries. It queues replies, keeps transactions, and says when
-//!   it was idle for too long.
+//! - `Connection` takes the octets of a stream and gives its queries. It queues replies, keeps transactions, says when it
+//!   was idle for too long, and is closed once what waits was written.
 //! - `MessageReader` reads a message item by item, names uncompressed.
 //! - `read_settings` reads settings from a text.
 //!
@@ -25,7 +25,8 @@
 //! - A message is ignored exactly if it is shorter than a header or, over a stream or by `decide_message`, a response.
 //! - A connection gives each frame once and in order, and keeps the octets of no whole frame. It queues a reply exactly if
 //!   there is room in queue and budget.
-//! - What a service gives to a connection turns it as the rules for one client do (`what_is_given_is_a_turn`).
+//! - What a service gives to a connection turns it as the rules for one client do (`what_is_given_is_a_turn`). What leaves a
+//!   connection over its whole life is what these rules give (`what_is_sent_is_as_ruled`).
 //! - A reader gives each item once and in order, or the one that can't be read.
 //!
 //! # What a body could still get away with
@@ -49,7 +50,9 @@ pub use action::{Action, Arrival, decide_message};
 pub use buffer::put;
 pub use connection::{Connection, Next, Written};
 pub use datagram::decide_datagram;
-pub use laws::{asked_and_rewritten_is_answered, what_is_given_is_a_turn};
+pub use laws::{
+    asked_and_rewritten_is_answered, what_is_given_is_a_turn, what_is_sent_is_as_ruled,
+};
 pub use reader::{ItemSection, MessageReader, ReadItem};
 pub use rewriting::{refuse_message, rewrite_message};
 pub use rule::ReplyRule;

@@ -2,7 +2,7 @@
 
 ghost use Rattle.std.specs.Prelude.{◌≡◌, ◌≤◌, length, IfOk};
 ghost use Rattle.dns_framing.specs.Frames.{framed};
-ghost use Rattle.dns_embed.specs.Transactions.{counted, enqueued_as, frame_in, hearing, queueing};
+ghost use Rattle.dns_embed.specs.Transactions.{counted, dropped_as, enqueued_as, frame_in, hearing, queueing};
 
 use dns_framing::{ConnectionInvoker, ServiceInvoker, is_in_transaction};
 use dns_service::{Enqueued, InvokerStatus, Octets, OutOfMemory, ServiceFeedback};
@@ -41,6 +41,17 @@ pub(crate) fn enqueue(invoker: &mut ConnectionInvoker, frame: Option<Octets>) ->
     }
     if is_in_transaction(invoker.status) {
         Some(Enqueued::Held)
+    } else {
+        Some(Enqueued::Dropped)
+    }
+}
+
+/// What becomes of a reply that nobody waits for any more; no octets are no reply.
+pub(crate) fn dropped(reply: &[u8]) -> Option<Enqueued>
+    ensures { result ≡ dropped_as (frame_in reply.now) }
+{
+    if reply.is_empty() {
+        None
     } else {
         Some(Enqueued::Dropped)
     }

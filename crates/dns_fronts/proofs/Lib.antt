@@ -1,2 +1,3 @@
 mod Takings
 mod Cachings
+mod Servings

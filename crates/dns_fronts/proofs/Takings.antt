@@ -25,7 +25,7 @@ use Rattle.dns_fronts.specs.Layered.{asked_message, given_where, item_in, layere
 use Rattle.dns_fronts.specs.Passed.{passed_to}
 
 -- an answer that comes once, rewritten
-mapped-once : (f : Item → Item) (i : Item) (k : ℕ) → mapped f (once i k) ≡ once (f i) k
+pub mapped-once : (f : Item → Item) (i : Item) (k : ℕ) → mapped f (once i k) ≡ once (f i) k
 mapped-once f i zero = refl
 mapped-once f i (suc k) = refl
 

@@ -3,7 +3,6 @@
 ghost use Rattle.std.specs.Prelude.{◌≡◌, IfOk, OnOk};
 ghost use Rattle.dns_layers.specs.Rewritten.{rewritten};
 ghost use Rattle.dns_middleware.specs.Wrapped.{hint_left};
-ghost use Rattle.dns_middleware.specs.WrappedStreams.{wrap_by};
 ghost use Rattle.dns_fronts.specs.Layered.{given};
 ghost use Rattle.dns_fronts.specs.Caching.{cache_given, cache_taken, cached_asks, cached_over, looked_up, young_item};
 ghost use Rattle.dns_fronts.specs.Passed.{taken_unless};
@@ -13,7 +12,7 @@ use crate::layered::{LayeredFront, given_turn, own_of};
 use crate::single::{Answered, Unanswered};
 use dns_base::Message;
 use dns_cache::Cache;
-use dns_layers::rewrite_answer;
+use dns_layers::{Rewrite, rewrite_answer};
 use dns_middleware::WrapPost;
 use dns_proxy::{Front, Taken};
 use dns_route::{SendError, turn_item};
@@ -68,7 +67,7 @@ impl CachedFront {
     {
         let young = self.young(alloc, request)?;
         match young {
-            Some(item) => own_by(alloc, rule, item),
+            Some(item) => own_by(alloc, &rule, item),
             None => Ok(Taken::Passed(rule, message)),
         }
     }
@@ -112,15 +111,15 @@ impl Front for CachedFront {
     }
 }
 
-/// An item that a rule rewrites.
-fn own_by(
+/// A request is answered with an item that a rule rewrites.
+pub(crate) fn own_by<R: Rewrite, T>(
     alloc: Global,
-    rule: WrapPost,
+    rule: &R,
     item: ServiceResult,
-) -> Result<Taken<WrapPost>, OutOfMemory>
-    ensures { IfOk result (λ t. t ≡ Taken.Own (rewritten (wrap_by rule) item)) }
+) -> Result<Taken<T>, OutOfMemory>
+    ensures { IfOk result (λ t. t ≡ Taken.Own (rewritten (R.rewriting rule.now) item)) }
 {
     let mut answer = Polled::Ready(Some(item));
-    rewrite_answer(&rule, alloc, &mut answer)?;
+    rewrite_answer(rule, alloc, &mut answer)?;
     Ok(own_of(answer))
 }

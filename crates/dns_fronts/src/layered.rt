@@ -154,7 +154,7 @@ fn refused_notice(
 }
 
 /// A request is answered with an item that is there.
-pub(crate) fn own_of(answer: Polled<Option<ServiceResult>>) -> Taken<WrapPost>
+pub(crate) fn own_of<R>(answer: Polled<Option<ServiceResult>>) -> Taken<R>
     ensures { result ≡ Taken.Own (item_in answer) }
 {
     match answer {

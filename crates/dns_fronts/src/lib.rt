@@ -5,13 +5,16 @@
 //!   zone. Clients of a `Network` that is required to have cookies are denied service over UDP without a good one.
 //! - `CachedFront` is the layers with a cache behind them. What they pass on is answered out of the cache if that has a young
 //!   reply. The replies that are made of answers are kept.
+//! - `ServerFront` is another front, whose replies say what a server says of itself: at most 512 octets over UDP without EDNS. OPT
+//!   records have the server's own size and the request's DO. With a secret replies carry a server cookie.
 //!
-//! Both are a `Front` of dns_proxy, whose `Taken` says how a request is taken.
+//! Each is a `Front` of dns_proxy, whose `Taken` says how a request is taken.
 //!
 //! ```text
 //! request -> layers -> a reply of their own
 //!                   -> cache -> a young reply, rewritten by the layers
 //!                            -> the message that an upstream is asked -> its answer -> reply, kept and rewritten
+//! each reply -> server cookie -> the server's own OPT record -> cut to the size that is allowed
 //! ```
 //!
 //! What is asked has the request's questions, and no OPT record or one of our own, which keeps the DO bit and client
@@ -24,6 +27,8 @@
 //! - No upstream is asked for what the layers answer themselves (a refused cookie, a NOTIFY), nor for what can't be read or sent.
 //!   Nor is one if a young reply is in the cache (`asked_message`, `cached_asks`).
 //! - A client of a required network is taken as one whose address is denied service without a good cookie (`settings_for`).
+//! - A query over UDP is sent at most as many octets as its hint allows, and without an OPT record 512 (`replies_fit`). Its
+//!   replies are those of the front inside, with the cookie and the OPT record that a name server of ours adds (`served`).
 //! - The cache is asked only for requests that the layers pass on. It keeps a reply under the seconds at which its query came
 //!   (`cache_taken`, `cache_given`).
 //!
@@ -36,9 +41,14 @@ mod cached;
 mod layered;
 mod networks;
 mod sendable;
+mod server;
+mod server_cookie;
+mod server_post;
 mod single;
 
 pub use cached::CachedFront;
 pub use dns_proxy::{Front, Taken};
 pub use layered::LayeredFront;
 pub use networks::Network;
+pub use server::{ServerFront, replies_fit};
+pub use server_post::{ServerPost, ServerRule};

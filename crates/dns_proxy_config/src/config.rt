@@ -1,8 +1,8 @@
 //! The configuration of a proxy.
 
-ghost use Rattle.std.specs.Prelude.{◌≡◌, ◌≢◌, [], IfOk, IsSome};
+ghost use Rattle.std.specs.Prelude.{◌≡◌, ◌≢◌, [], IfErr, IfOk, IsSome, None, option_map};
 ghost use Rattle.toml.specs.Parse.{parse_document};
-ghost use Rattle.dns_proxy_config.specs.Proxies.{client_limits, client_timeouts, replies_of};
+ghost use Rattle.dns_proxy_config.specs.Proxies.{client_limits, client_timeouts, replies_of, required_of, server_cookies};
 
 use crate::cookies::{CookieKeys, cookies_of};
 use crate::limits::Limits;
@@ -60,10 +60,13 @@ fn server_of(
     ensures limits { result.limits ≡ client_limits limits.now }
     ensures timeouts { result.timeouts ≡ client_timeouts limits.now }
     ensures cookies { result.cookies ≡ cookies }
+    ensures transfers { result.allow_transfer.items ≡ [] }
+    ensures rest { (result.control ≡ None) × (result.workers ≡ None) × (result.nsid ≡ None) }
 {
     ServerConfig {
         listen,
         control: None,
+        metrics: None,
         workers: None,
         nsid: None,
         allow_transfer: Vec::new(alloc),
@@ -86,18 +89,20 @@ impl Config {
     }
 }
 
-/// The configuration that a text is.
-pub fn read_config(alloc: Global, text: &str) -> Result<Config, ConfigError>
-    ensures ok { IfOk result (λ _. IsSome (parse_document text.now)) }
+/// The configuration that keys say. They are refused where they name no address at which is listened.
+fn config_of(alloc: Global, keys: Keys) -> Result<Config, ConfigError>
+    ensures listen { IfOk result (λ c. c.server.listen ≡ keys.listen) }
     ensures listens { IfOk result (λ c. c.server.listen.items ≢ []) }
     ensures zones { IfOk result (λ c. c.server.zone.items ≡ []) }
-    ensures limits { IfOk result (λ c. c.server.limits ≡ client_limits c.limits) }
-    ensures timeouts { IfOk result (λ c. c.server.timeouts ≡ client_timeouts c.limits) }
+    ensures client_limits { IfOk result (λ c. c.server.limits ≡ client_limits keys.limits) }
+    ensures client_timeouts { IfOk result (λ c. c.server.timeouts ≡ client_timeouts keys.limits) }
+    ensures cookies { IfOk result (λ c. c.server.cookies ≡ option_map server_cookies keys.cookies) }
+    ensures required { IfOk result (λ c. c.required.items ≡ required_of keys.cookies) }
+    ensures cache { IfOk result (λ c. c.cache ≡ keys.cache) }
+    ensures limits { IfOk result (λ c. c.limits ≡ keys.limits) }
+    ensures upstream { IfOk result (λ c. c.upstream ≡ keys.upstream) }
+    ensures refused { IfErr result (λ e. (e ≡ ConfigError.NoAddress) × (keys.listen.items ≡ [])) }
 {
-    let keys: Keys = match toml::from_str(alloc, text) {
-        Ok(keys) => keys,
-        Err(error) => return Err(ConfigError::Toml(error)),
-    };
     let Keys {
         listen,
         cache,
@@ -117,4 +122,20 @@ pub fn read_config(alloc: Global, text: &str) -> Result<Config, ConfigError>
         limits,
         upstream,
     })
+}
+
+/// The configuration that a text is. No network needs a cookie where there is no secret.
+#[tactic(auto, using(crate::proofs::Required::none_required))]
+pub fn read_config(alloc: Global, text: &str) -> Result<Config, ConfigError>
+    ensures ok { IfOk result (λ _. IsSome (parse_document text.now)) }
+    ensures listens { IfOk result (λ c. c.server.listen.items ≢ []) }
+    ensures zones { IfOk result (λ c. c.server.zone.items ≡ []) }
+    ensures limits { IfOk result (λ c. c.server.limits ≡ client_limits c.limits) }
+    ensures timeouts { IfOk result (λ c. c.server.timeouts ≡ client_timeouts c.limits) }
+    ensures required { IfOk result (λ c. c.server.cookies ≡ None → c.required.items ≡ []) }
+{
+    match toml::from_str(alloc, text) {
+        Ok(keys) => config_of(alloc, keys),
+        Err(error) => Err(ConfigError::Toml(error)),
+    }
 }

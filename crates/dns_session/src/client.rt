@@ -173,7 +173,8 @@ impl<W: SharedService> ClientCore<W> {
         requires { W.can_call service.now }
         // By each event of these octets at this moment, at each slate that the core stands for, it sends what the rule says.
         ensures follows { IfOk result (λ sent. (e : Event) → e.at ≡ at → e.secs ≡ secs → e.kind ≡ EventKind.Piece octets.now
-            → GoesAs (request_answer W.Future.answer W.Stream.answer) (serving (W.answer service.now) (W.hint service.now)) self.old self.new (outputs_in self.old.client sent)
+            → GoesAs (request_answer W.Future.answer W.Stream.answer)
+            (serving (W.answer service.now) (W.hint service.now)) self.old self.new (outputs_in self.old.client sent)
             (rule (serving (W.answer service.now) (W.hint service.now)) e)) }
         ensures client { self.new.client ≡ self.old.client }
         ensures version { self.new.version ≡ self.old.version }
@@ -195,7 +196,8 @@ impl<W: SharedService> ClientCore<W> {
     pub fn write(&mut self, at: u64, took: u64) -> Sent
         // By each such event, at each slate that the core stands for, it sends what the rule says.
         ensures follows { (answers : Serving) (e : Event) → e.at ≡ at → e.kind ≡ EventKind.Write took
-            → GoesAs (request_answer W.Future.answer W.Stream.answer) answers self.old self.new (outputs_in self.old.client result) (rule answers e) }
+            → GoesAs (request_answer W.Future.answer W.Stream.answer) answers self.old self.new (outputs_in self.old.client result)
+            (rule answers e) }
         ensures client { self.new.client ≡ self.old.client }
         ensures version { self.new.version ≡ self.old.version }
         ensures lost { IsLost self.old → (result ≡ Sent.Nothing) × IsLost self.new }

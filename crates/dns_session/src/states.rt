@@ -141,7 +141,8 @@ pub(crate) fn piece_state<W: SharedService>(
 ) -> Result<Sent, OutOfMemory>
     requires { W.can_call service.now }
     ensures follows { IfOk result (λ sent. (client : ℕ) (e : Event) → e.at ≡ at → e.secs ≡ secs → e.kind ≡ EventKind.Piece octets.now
-        → StateGoes (request_answer W.Future.answer W.Stream.answer) (serving (W.answer service.now) (W.hint service.now)) client state.old state.new (outputs_in client sent)
+        → StateGoes (request_answer W.Future.answer W.Stream.answer)
+        (serving (W.answer service.now) (W.hint service.now)) client state.old state.new (outputs_in client sent)
         (rule (serving (W.answer service.now) (W.hint service.now)) e)) }
     ensures lost { state.old ≡ State.Lost → IsOkAnd result (λ sent. sent ≡ Sent.Nothing) × (state.new ≡ State.Lost) }
 {
@@ -157,7 +158,8 @@ pub(crate) fn piece_state<W: SharedService>(
 /// The front frame of a client was written, or took too long.
 pub(crate) fn write_state<W: SharedService>(state: &mut State<W>, at: u64, took: u64) -> Sent
     ensures follows { (answers : Serving) (client : ℕ) (e : Event) → e.at ≡ at → e.kind ≡ EventKind.Write took
-        → StateGoes (request_answer W.Future.answer W.Stream.answer) answers client state.old state.new (outputs_in client result) (rule answers e) }
+        → StateGoes (request_answer W.Future.answer W.Stream.answer) answers client state.old state.new (outputs_in client result)
+        (rule answers e) }
     ensures lost { state.old ≡ State.Lost → (result ≡ Sent.Nothing) × (state.new ≡ State.Lost) }
 {
     match state {

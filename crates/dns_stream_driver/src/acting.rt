@@ -34,7 +34,8 @@ fn take_piece<W: SharedService>(
 ) -> Result<Option<Why>, OutOfMemory>
     requires { W.can_call service.now }
     ensures { IfOk result (λ why. (e : Event) → e.at ≡ at → e.secs ≡ secs → e.kind ≡ EventKind.Piece octets.now
-        → TakesEvent (request_answer W.Future.answer W.Stream.answer) (serving (W.answer service.now) (W.hint service.now)) core.old core.new e why) }
+        → TakesEvent (request_answer W.Future.answer W.Stream.answer)
+        (serving (W.answer service.now) (W.hint service.now)) core.old core.new e why) }
 {
     match core.piece(alloc, service, at, secs, octets) {
         Ok(sent) => Ok(closed_behind(&sent)),
@@ -75,7 +76,8 @@ fn step<W: SharedService>(
     event: &Event,
 ) -> Result<Option<Why>, OutOfMemory>
     requires { W.can_call service.now }
-    ensures { IfOk result (λ why. TakesEvent (request_answer W.Future.answer W.Stream.answer) (serving (W.answer service.now) (W.hint service.now)) core.old core.new event.now why) }
+    ensures { IfOk result (λ why. TakesEvent (request_answer W.Future.answer W.Stream.answer)
+        (serving (W.answer service.now) (W.hint service.now)) core.old core.new event.now why) }
 {
     match &event.kind {
         EventKind::Piece(octets) => {

@@ -1,7 +1,7 @@
 //! The clients: where they are listened to, their connections, and their messages that wait.
 
 use crate::client::Client;
-use crate::connections::{ConnectionLimits, Connections};
+use crate::connections::{ConnectionLimits, Connections, sooner};
 use crate::listener::Listener;
 use crate::token::{Source, token_of};
 use dns_name::{Octets, OutOfMemory};
@@ -10,7 +10,20 @@ use mio::net::TcpStream;
 use mio::{Interest, Registry, Token};
 use std::alloc::Global;
 use std::collections::VecDeque;
+use std::io;
+use std::io::ErrorKind;
 use std::net::SocketAddr;
+
+/// After how many ms connections are taken again where taking them failed.
+const PAUSE: u64 = 100;
+
+/// Whether a moment, if there is one, has come.
+fn is_due(due: Option<u64>, at: u64) -> bool {
+    match due {
+        Some(due) => due <= at,
+        None => false,
+    }
+}
 
 /// A message of a client that waits until there is room for it.
 #[derive(Drop)]
@@ -42,6 +55,11 @@ impl Clients {
             waiting: VecDeque::new(alloc),
             most_waiting,
         }
+    }
+
+    /// How many listeners there are.
+    pub(crate) fn count_listeners(&self) -> usize {
+        self.listeners.len()
     }
 
     /// The token that stands for this.
@@ -80,23 +98,54 @@ impl Clients {
 
     // ---- connections
 
-    /// A connection that came at a listener, if there is one.
-    fn accepted(&self, listener: usize) -> Option<(TcpStream, SocketAddr)> {
-        let kept = self.listeners.get(listener)?;
-        kept.connections.accept().ok()
+    /// A connection that came at a listener, if there is one. Taking it may fail where the client went away, and where the system has no
+    /// descriptor or memory for it.
+    fn accepted(&self, listener: usize) -> io::Result<Option<(TcpStream, SocketAddr)>> {
+        let Some(kept) = self.listeners.get(listener) else {
+            return Ok(None);
+        };
+        match kept.connections.accept() {
+            Ok(accepted) => Ok(Some(accepted)),
+            Err(error) if matches!(error.kind(), ErrorKind::WouldBlock) => Ok(None),
+            Err(error) => Err(error),
+        }
     }
 
     /// Takes a connection that came at a listener at a moment, if there is one. Where there may be no more, it is closed at once.
-    pub(crate) fn accept(&mut self, registry: &Registry, listener: usize, at: u64) -> bool {
-        let Some((stream, addr)) = self.accepted(listener) else {
-            return false;
+    pub(crate) fn accept(
+        &mut self,
+        registry: &Registry,
+        listener: usize,
+        at: u64,
+    ) -> io::Result<bool> {
+        let Some((stream, addr)) = self.accepted(listener)? else {
+            return Ok(false);
         };
         if let Some(number) = self.connections.free_number() {
             let token = self.token_of(Source::Client(number));
             self.connections
                 .keep(registry, token, number, stream, addr, at);
         }
-        true
+        Ok(true)
+    }
+
+    /// The connections at a listener are taken again later, since taking them failed at a moment.
+    pub(crate) fn accept_later(&mut self, listener: usize, at: u64) {
+        if let Some(kept) = self.listeners.get_mut(listener) {
+            kept.again = Some(at.saturating_add(PAUSE));
+        }
+    }
+
+    /// A listener at which connections are to be taken again by now.
+    pub(crate) fn next_again(&mut self, at: u64) -> Option<usize> {
+        let listener = self
+            .listeners
+            .iter()
+            .position(|kept| is_due(kept.again, at))?;
+        if let Some(kept) = self.listeners.get_mut(listener) {
+            kept.again = None;
+        }
+        Some(listener)
     }
 
     /// What is still there at a listener is registered again.
@@ -118,9 +167,13 @@ impl Clients {
         self.connections.read_on(registry, token, number)
     }
 
-    /// The first moment at which a connection was idle for too long.
+    /// The first moment at which a connection was idle for too long, or connections are taken again.
     pub(crate) fn due(&self) -> Option<u64> {
-        self.connections.due()
+        let mut first = self.connections.due();
+        for kept in self.listeners.iter() {
+            first = sooner(first, kept.again);
+        }
+        first
     }
 
     /// Closes each connection that was idle for too long.
@@ -175,6 +228,11 @@ impl Clients {
     pub(crate) fn wait_first(&mut self, client: Client, octets: Octets) -> Result<(), OutOfMemory> {
         self.waiting.push_front(Waiting { client, octets })?;
         Ok(())
+    }
+
+    /// How many messages wait.
+    pub(crate) fn count_waiting(&self) -> usize {
+        self.waiting.len()
     }
 
     /// Takes the message that waits first.

@@ -13,7 +13,7 @@ use crate::place::{Drawn, Place};
 use crate::port::Port;
 use crate::token::Source;
 use dns_cache::Cache;
-use dns_fronts::{CachedFront, LayeredFront};
+use dns_fronts::{CachedFront, ServerFront};
 use dns_name::{Octets, OutOfMemory};
 use dns_outside::{Clock, HostClock};
 use dns_outstanding::Outstanding;
@@ -45,7 +45,7 @@ pub(crate) struct Forwarder<R> {
     pub(crate) poll: Poll,
     pub(crate) clients: Clients,
     upstreams: Upstreams,
-    pub(crate) proxy: Proxy<CachedFront>,
+    pub(crate) proxy: Proxy<ServerFront<CachedFront>>,
     pub(crate) places: Vec<Option<Place>>,
     pub(crate) ports: Vec<Option<Port>>,
     pub(crate) outstanding: Outstanding,
@@ -59,12 +59,12 @@ fn proxy_of(
     alloc: Global,
     config: &Config,
     seed: RandomState,
-) -> Result<Proxy<CachedFront>, OutOfMemory> {
+) -> Result<Proxy<ServerFront<CachedFront>>, OutOfMemory> {
     let settings = config.server.settings(alloc)?;
     let dgram = settings.dgram;
     let cache = Cache::new_with_seed(alloc, config.replies(), seed)?;
     let required = networks(alloc, config.required.as_slice())?;
-    let front = CachedFront::new(LayeredFront::new(settings, required), cache);
+    let front = ServerFront::new(settings, required, cache);
     Ok(Proxy::new(alloc, front, dgram, config.limits.queries()))
 }
 
@@ -120,7 +120,7 @@ impl Sockets {
 #[derive(Drop)]
 struct Core {
     upstreams: Upstreams,
-    proxy: Proxy<CachedFront>,
+    proxy: Proxy<ServerFront<CachedFront>>,
 }
 
 impl Core {
@@ -186,6 +186,7 @@ impl<R: Net + rt::Clock + RandomSource + Copy> Forwarder<R> {
         }
         self.tick_all();
         self.close_idle();
+        self.accept_again();
         Ok(())
     }
 
@@ -230,15 +231,33 @@ impl<R: Net + rt::Clock + RandomSource + Copy> Forwarder<R> {
         self.clients.receive_on(self.poll.registry(), listener);
     }
 
-    /// Takes the connections of clients that came at a listener.
+    /// Takes the connections of clients that came at a listener. Where that failed and some may be left, they are taken again later.
     fn take_connections(&mut self, listener: usize) {
         let (at, _) = self.clock.latest();
+        let mut failed = false;
         for _ in 0..BATCH {
-            if !self.clients.accept(self.poll.registry(), listener, at) {
-                return;
+            match self.clients.accept(self.poll.registry(), listener, at) {
+                Ok(true) => {}
+                Ok(false) => return,
+                Err(_) => failed = true,
             }
         }
-        self.clients.accept_on(self.poll.registry(), listener);
+        if failed {
+            self.clients.accept_later(listener, at);
+        } else {
+            self.clients.accept_on(self.poll.registry(), listener);
+        }
+    }
+
+    /// Takes the connections at each listener where that failed, once it is due.
+    fn accept_again(&mut self) {
+        let (at, _) = self.clock.latest();
+        for _ in 0..self.clients.count_listeners() {
+            match self.clients.next_again(at) {
+                Some(listener) => self.take_connections(listener),
+                None => return,
+            }
+        }
     }
 
     /// Takes the requests that came over the connection of a client.
@@ -274,9 +293,9 @@ impl<R: Net + rt::Clock + RandomSource + Copy> Forwarder<R> {
         }
     }
 
-    /// Begins with the messages that wait, as far as there is room.
+    /// Begins with each of the messages that wait, as far as there is room.
     pub(crate) fn begin_waiting(&mut self) {
-        for _ in 0..BATCH {
+        for _ in 0..self.clients.count_waiting() {
             let Some(Waiting { client, octets }) = self.clients.next_waiting() else {
                 return;
             };

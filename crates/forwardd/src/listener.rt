@@ -8,11 +8,12 @@ use mio::net::{TcpListener, UdpSocket};
 use mio::{Interest, Registry};
 use std::net::{Net, SocketAddr};
 
-/// The sockets of an address: for datagrams, and for connections.
+/// The sockets of an address: for datagrams, and for connections; and when connections are taken again, where taking them failed.
 #[derive(Drop)]
 pub(crate) struct Listener {
     pub(crate) datagrams: UdpSocket,
     pub(crate) connections: TcpListener,
+    pub(crate) again: Option<u64>,
 }
 
 /// Opens the sockets of an address, and registers them under a number of so many.
@@ -34,6 +35,7 @@ fn bind<N: Net>(
     Ok(Listener {
         datagrams,
         connections,
+        again: None,
     })
 }
 

@@ -1,5 +1,8 @@
 //! What tokens stand for.
 
+ghost use Rattle.std.specs.Prelude.{◌≡◌, ◌≤◌, min};
+ghost use Rattle.forwardd.specs.Tokens.{IsThere, number_of, source_of};
+
 use mio::Token;
 
 /// What a token stands for.
@@ -7,7 +10,7 @@ use mio::Token;
 pub(crate) enum Source {
     /// The socket of a listener for datagrams.
     Datagrams(usize),
-    /// The one for connections.
+    /// Its socket for connections.
     Connections(usize),
     /// The socket of a port.
     Socket(usize),
@@ -18,7 +21,9 @@ pub(crate) enum Source {
 }
 
 /// What a token stands for, where there are so many listeners.
-pub(crate) fn source_of(listeners: usize, token: Token) -> Source {
+pub(crate) fn source_of(listeners: usize, token: Token) -> Source
+    ensures { result ≡ source_of listeners token.0 }
+{
     if token.0 < listeners {
         return Source::Datagrams(token.0);
     }
@@ -34,10 +39,12 @@ pub(crate) fn source_of(listeners: usize, token: Token) -> Source {
     }
 }
 
-/// The token that stands for this.
-pub(crate) fn token_of(listeners: usize, source: Source) -> Token {
+/// The number of the token that stands for this.
+fn number_of(listeners: usize, source: Source) -> usize
+    ensures { result ≡ min (number_of listeners source) usize.MAX }
+{
     let first = listeners.saturating_mul(2);
-    let number = match source {
+    match source {
         Source::Datagrams(number) => number,
         Source::Connections(number) => listeners.saturating_add(number),
         Source::Socket(port) => first.saturating_add(port.saturating_mul(3)),
@@ -47,6 +54,13 @@ pub(crate) fn token_of(listeners: usize, source: Source) -> Token {
         Source::Client(number) => first
             .saturating_add(number.saturating_mul(3))
             .saturating_add(2),
-    };
-    Token(number)
+    }
+}
+
+/// The token that stands for this, and for nothing else, while its number is no greater than `usize::MAX`.
+pub(crate) fn token_of(listeners: usize, source: Source) -> Token
+    ensures number { result.0 ≡ min (number_of listeners source) usize.MAX }
+    ensures stands { IsThere listeners source → number_of listeners source ≤ usize.MAX → source_of listeners result.0 ≡ source }
+{
+    Token(number_of(listeners, source))
 }

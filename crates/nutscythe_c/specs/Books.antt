@@ -8,7 +8,7 @@ use Rattle.dns_admission.specs.declared.call.Reply.TheVariants.{Admission, Left,
 use Rattle.dns_admission.specs.Machine.{new_state, reply_of, state_after}
 use Rattle.dns_events.specs.declared.look.Look.{Look as State}
 use Rattle.dns_events.specs.declared.settings.Settings.{Settings}
-use Rattle.dns_embed.specs.Connections.{configured}
+use Rattle.dns_embed.specs.Connections.{configured, unless_closing}
 use Rattle.nutscythe_c.specs.declared.kept.Kept.{Kept}
 use Rattle.nutscythe_c.specs.declared.kept.Kept.TheVariants.{Connection as KeptConnection, Book as KeptBook}
 use Rattle.nutscythe_c.specs.declared.status.Status.{Status}
@@ -48,8 +48,9 @@ Calls (Some call) (Some (KeptBook s)) after t = Called call s after t
 Calls (Some call) before after t = (t ≡ NoHandle) × (after ≡ before)
 Calls None before after t = (t ≡ OutOfRange) × (after ≡ before)
 
--- a connection or a book takes the configurations in settings
+-- a connection or a book takes the configurations in settings, unless the connection is to be closed
 abbrev pub Configures : Settings → Option Kept → Option Kept → Status → Type 0
-Configures s (Some (KeptConnection c)) after t = (after ≡ Some (KeptConnection (configured s.stream.connection_config c))) × (t ≡ Done)
+Configures s (Some (KeptConnection c)) after t = (t ≡ Done)
+    × (after ≡ Some (KeptConnection (unless_closing c (configured s.stream.connection_config c))))
 Configures s (Some (KeptBook b)) after t = Called (Reconfigure s.dgram s.stream) b after t
 Configures s before after t = (t ≡ NoHandle) × (after ≡ before)

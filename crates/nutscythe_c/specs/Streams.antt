@@ -1,50 +1,26 @@
 -- What the calls of a connection leave, by their status.
-use Rattle.std.specs.Prelude.{ℕ, ◌≡◌, ◌<◌, ◌≤◌, ◌++◌, [], Bool, true, false, List, length, drop, slice_get, Option, Some, None}
-use Rattle.circular_buffer.specs.Buffer.{buffer}
+use Rattle.std.specs.Prelude.{ℕ, ◌≡◌, ◌<◌, ◌≤◌, ◌++◌, ◌==◌, Bool, true, false, List, length, drop, slice_get, Option, Some, None, if◌then◌else◌}
 use Rattle.dns_events.specs.declared.settings.Settings.{Settings}
-use Rattle.dns_events.specs.Config.{Connection as Config}
-use Rattle.dns_framing.specs.Budget.{unspent}
 use Rattle.dns_framing.specs.Frames.{framed}
-use Rattle.dns_framing.specs.Invoker.{finds_room}
-use Rattle.dns_framing.specs.Timers.{deadline}
-use Rattle.dns_service.specs.declared.invoker.InvokerStatus.TheVariants.{Normal}
 use Rattle.dns_embed.specs.declared.connection.Connection.{Connection}
 use Rattle.dns_embed.specs.declared.connection.Next.TheVariants.{Waits, Query, NoRoom as TooShort, Response as Answered, Short}
 use Rattle.dns_embed.specs.declared.connection.Written.{Written}
 use Rattle.dns_embed.specs.declared.connection.Written.TheVariants as Write
-use Rattle.dns_embed.specs.Connections.{NextIs, NothingDone, WriteIs, at_moment, is_idle, offering}
+use Rattle.dns_embed.specs.Connections.{NextIs, NothingDone, WriteIs, at_moment, closing, deadline_of, has_room, is_idle, offering, opened, unless_closing}
 use Rattle.nutscythe_c.specs.declared.kept.Kept.{Kept}
 use Rattle.nutscythe_c.specs.declared.kept.Kept.TheVariants.{Connection as KeptConnection}
 use Rattle.nutscythe_c.specs.declared.status.Status.{Status}
 use Rattle.nutscythe_c.specs.declared.status.Status.TheVariants.{Done, Nothing, Response, Dropped, Close, NoMemory, NoHandle, NoRoom, TooLong}
 use Rattle.nutscythe_c.specs.Calls.{Unwritten}
 
--- a connection of a configuration, of which nothing came yet
-abbrev pub fresh : ℕ → Config → Connection
-fresh at config = record {
-  front = None;
-  framer = [];
-  timer = at;
-  write_timeout = config.response_write_timeout;
-  invoker = record {
-    at = at;
-    idle_timeout = config.idle_timeout;
-    budget = unspent config;
-    queue = buffer [] config.max_queued_responses;
-    status = Normal;
-    held = None;
-  };
-  transactions = 0;
-}
-
 abbrev pub Opens : ℕ → Settings → Option Kept → Option Kept → Status → Type 0
-Opens at s before after Done = after ≡ Some (KeptConnection (fresh at s.stream.connection_config))
+Opens at s before after Done = after ≡ Some (KeptConnection (opened at s.stream.connection_config))
 Opens at s before after NoMemory = after ≡ before
 Opens at s before after t = ⊥
 
--- octets stand behind those that came before
+-- octets stand behind those that came before, unless it is to be closed
 abbrev pub Fed : List ℕ → Connection → Connection → Status → Type 0
-Fed o c d Done = d ≡ record c { framer = c.framer ++ o }
+Fed o c d Done = d ≡ unless_closing c (record c { framer = c.framer ++ o })
 Fed o c d NoMemory = d ≡ c
 Fed o c d t = ⊥
 
@@ -67,10 +43,10 @@ Gives at (Some (KeptConnection c)) kept before after len len' t = (d : Connectio
     × Given at c d before after len len' t
 Gives at held kept before after len len' t = (t ≡ NoHandle) × (kept ≡ held) × Unwritten before after len len'
 
--- a reply is queued exactly if there is room for its frame
+-- a reply is queued exactly if there is room for its frame, and it isn't to be closed
 abbrev pub Offered : ℕ → List ℕ → Connection → Connection → Status → Type 0
-Offered at o c d Done = (finds_room (record c.invoker { at = at }) ≡ true) × (length o ≤ 65535) × (d ≡ offering at c (framed o))
-Offered at o c d Dropped = (finds_room (record c.invoker { at = at }) ≡ false) × (length o ≤ 65535) × (d ≡ offering at c (framed o))
+Offered at o c d Done = (has_room at c ≡ true) × (length o ≤ 65535) × (d ≡ unless_closing c (offering at c (framed o)))
+Offered at o c d Dropped = (has_room at c ≡ false) × (length o ≤ 65535) × (d ≡ unless_closing c (offering at c (framed o)))
 Offered at o c d TooLong = (65535 < length o) × (d ≡ c)
 Offered at o c d NoMemory = d ≡ at_moment at c
 Offered at o c d t = ⊥
@@ -79,15 +55,20 @@ abbrev pub Offers : ℕ → List ℕ → Option Kept → Option Kept → Status 
 Offers at o (Some (KeptConnection c)) after t = (d : Connection) × (after ≡ Some (KeptConnection d)) × Offered at o c d t
 Offers at o before after t = (t ≡ NoHandle) × (after ≡ before)
 
+-- one of which no frame waits is closed, if it was to be
+abbrev pub nothing_left : Bool → Status
+nothing_left true = Close
+nothing_left false = Nothing
+
 -- the first frame of the queue stands in the buffer, or is longer than that, and its length is written in both cases
-abbrev pub Shows : Option (List ℕ) → List ℕ → List ℕ → ℕ → ℕ → Status → Type 0
-Shows None before after len len' t = (t ≡ Nothing) × Unwritten before after len len'
-Shows (Some m) before after len len' Done = (len' ≡ length m) × (len' ≤ length before) × (after ≡ m ++ drop len' before)
-Shows (Some m) before after len len' NoRoom = (len' ≡ length m) × (length before < len') × (after ≡ before)
-Shows (Some m) before after len len' t = ⊥
+abbrev pub Shows : Bool → Option (List ℕ) → List ℕ → List ℕ → ℕ → ℕ → Status → Type 0
+Shows is_closing None before after len len' t = (t ≡ nothing_left is_closing) × Unwritten before after len len'
+Shows is_closing (Some m) before after len len' Done = (len' ≡ length m) × (len' ≤ length before) × (after ≡ m ++ drop len' before)
+Shows is_closing (Some m) before after len len' NoRoom = (len' ≡ length m) × (length before < len') × (after ≡ before)
+Shows is_closing (Some m) before after len len' t = ⊥
 
 abbrev pub Fronts : Option Kept → List ℕ → List ℕ → ℕ → ℕ → Status → Type 0
-Fronts (Some (KeptConnection c)) before after len len' t = Shows (slice_get c.invoker.queue.items 0) before after len len' t
+Fronts (Some (KeptConnection c)) before after len len' t = Shows c.is_closing (slice_get c.invoker.queue.items 0) before after len len' t
 Fronts kept before after len len' t = (t ≡ NoHandle) × Unwritten before after len len'
 
 -- what became of the front frame
@@ -104,10 +85,10 @@ Writes at took (Some (KeptConnection c)) after t = (d : Connection) × (after �
 Writes at took before after t = (t ≡ NoHandle) × (after ≡ before)
 
 abbrev pub Expires : ℕ → Option Kept → ℕ → ℕ → Status → Type 0
-Expires now (Some (KeptConnection c)) before after t = (t ≡ Done) × (after ≡ deadline c.timer c.invoker.idle_timeout now)
+Expires now (Some (KeptConnection c)) before after t = (t ≡ Done) × (after ≡ deadline_of now c)
 Expires now kept before after t = (t ≡ NoHandle) × (after ≡ before)
 
--- the connection is to be closed exactly if it was idle for too long, and no transaction holds it open
+-- the connection is to be closed exactly if it was idle for too long
 abbrev pub Ticked : Bool → Status → Type 0
 Ticked true t = t ≡ Close
 Ticked false t = t ≡ Done
@@ -115,3 +96,11 @@ Ticked false t = t ≡ Done
 abbrev pub Ticks : ℕ → Option Kept → Status → Type 0
 Ticks now (Some (KeptConnection c)) t = Ticked (is_idle now c) t
 Ticks now kept t = t ≡ NoHandle
+
+-- it is to be closed: at once, unless frames wait
+abbrev pub Closed : Connection → Connection → Status → Type 0
+Closed c d t = (d ≡ closing c) × (t ≡ (if length c.invoker.queue.items == 0 then Close else Done))
+
+abbrev pub Closes : Option Kept → Option Kept → Status → Type 0
+Closes (Some (KeptConnection c)) after t = (d : Connection) × (after ≡ Some (KeptConnection d)) × Closed c d t
+Closes before after t = (t ≡ NoHandle) × (after ≡ before)

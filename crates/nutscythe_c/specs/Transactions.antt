@@ -1,5 +1,5 @@
 -- What a call leaves that gives a connection what the service of a request gave, by its status.
-use Rattle.std.specs.Prelude.{ℕ, ◌≡◌, ◌<◌, ◌≤◌, List, length, nat_eq, Option, Some, None, if◌then◌else◌}
+use Rattle.std.specs.Prelude.{ℕ, ◌≡◌, ◌<◌, ◌≤◌, Bool, true, false, List, length, nat_eq, Option, Some, None, if◌then◌else◌}
 use Rattle.dns_service.specs.declared.invoker.Enqueued.{Enqueued}
 use Rattle.dns_service.specs.declared.invoker.Enqueued.TheVariants.{Queued, Held as HeldBack, Dropped as LetGo}
 use Rattle.dns_service.specs.declared.invoker.InvokerStatus.{InvokerStatus}
@@ -50,10 +50,15 @@ Given at state h o c d n n' t = (length o ≤ 65535) × (d ≡ giving at state h
     × (n' ≡ state_number (invoker_given at state h (frame_in o) c).status)
     × (t ≡ enqueued_status (enqueued_as (frame_in o) (invoker_hearing at state h c)))
 
+-- of a connection that is to be closed nothing is heard any more
+abbrev pub GivenBy : Bool → ℕ → InvokerStatus → Heard → List ℕ → Connection → Connection → ℕ → ℕ → Status → Type 0
+GivenBy true at state h o c d n n' t = (t ≡ Nothing) × (d ≡ c) × (n' ≡ n)
+GivenBy false at state h o c d n n' t = Given at state h o c d n n' t
+
 -- one that ended with an error is done, and nothing is heard of it any more
 abbrev pub GivenTo : ℕ → InvokerStatus → Heard → List ℕ → Connection → Connection → ℕ → ℕ → Status → Type 0
-GivenTo at Normal h o c d n n' t = Given at Normal h o c d n n' t
-GivenTo at InTransaction h o c d n n' t = Given at InTransaction h o c d n n' t
+GivenTo at Normal h o c d n n' t = GivenBy c.is_closing at Normal h o c d n n' t
+GivenTo at InTransaction h o c d n n' t = GivenBy c.is_closing at InTransaction h o c d n n' t
 GivenTo at Aborting h o c d n n' t = (t ≡ Nothing) × (d ≡ c) × (n' ≡ n)
 
 abbrev pub GivesTo : ℕ → InvokerStatus → Heard → List ℕ → Option Kept → Option Kept → ℕ → ℕ → Status → Type 0

@@ -4,7 +4,7 @@ ghost use Rattle.std.specs.Prelude.{◌≡◌, slice_get};
 ghost use Rattle.nutscythe_c.specs.declared.status.Status.{Status as TheStatus};
 ghost use Rattle.nutscythe_c.specs.Calls.{number};
 ghost use Rattle.nutscythe_c.specs.Objects.{OfFirst};
-ghost use Rattle.nutscythe_c.specs.Streams.{Feeds, Fed, Fronts, Given, Gives, Offered, Offers, Opens, Shows, Writes, Wrote};
+ghost use Rattle.nutscythe_c.specs.Streams.{Feeds, Fed, Fronts, Given, Gives, Offered, Offers, Opens, Shows, Writes, Wrote, nothing_left};
 ghost use Rattle.nutscythe_c.specs.Uses.{UsesBy};
 
 use crate::handle::Handle;
@@ -280,12 +280,24 @@ fn front_in(
     status
 }
 
+/// What is said of a connection of which no frame waits.
+fn nothing_left(opened: &Connection) -> Status
+    ensures { result ≡ nothing_left opened.now.is_closing }
+{
+    if opened.is_closing() {
+        Status::Close
+    } else {
+        Status::Nothing
+    }
+}
+
 /// Writes the frame that is to be sent next of a connection.
 fn show(opened: &Connection, frame: &mut [u8], frame_len: &mut usize) -> Status
-    ensures { Shows (slice_get opened.now.invoker.queue.items 0) frame.old frame.new frame_len.old frame_len.new result }
+    ensures { Shows opened.now.is_closing (slice_get opened.now.invoker.queue.items 0) frame.old frame.new frame_len.old
+        frame_len.new result }
 {
     let Some(octets) = opened.front_frame() else {
-        return Status::Nothing;
+        return nothing_left(opened);
     };
     *frame_len = octets.len();
     if put(octets, frame) {

@@ -12,7 +12,7 @@ use crate::status::Status;
 use dns_embed::Connection;
 use std::alloc::Global;
 
-/// The moment in ms at which the connection was idle for too long.
+/// The moment in ms at which the connection was idle for too long; u64::MAX if its timer can't close it.
 #[unsafe(no_mangle)]
 pub extern "C" fn nutscythe_raw_connection_deadline(
     alloc: Global,

@@ -6,8 +6,8 @@
 //! - `nutscythe_raw_rewrite` and `nutscythe_raw_refuse` give the reply that is sent for a request that a service was asked.
 //! - `nutscythe_raw_reply_begin`, `_add`, `_option` and `_write` build a reply, which is rewritten without being read again.
 //! - `nutscythe_raw_message_read` and `_next` read a message item by item.
-//! - `nutscythe_raw_connection_open`, `_feed`, `_next`, `_offer`, `_give`, `_front`, `_written`, `_deadline` and `_tick` serve a
-//!   stream, with the transactions of its requests.
+//! - `nutscythe_raw_connection_open`, `_feed`, `_next`, `_offer`, `_give`, `_front`, `_written`, `_deadline`, `_tick` and `_close`
+//!   serve a stream, with the transactions of its requests.
 //! - `nutscythe_raw_book_open` and `_call` keep the slots for connections, and `nutscythe_raw_configure` lets a connection or a book
 //!   take other configurations.
 //! - `nutscythe_raw_free` lets go of what a handle holds.
@@ -31,6 +31,7 @@
 #![tactic(auto)]
 
 mod books;
+mod closing;
 mod connections;
 mod datagrams;
 mod handle;

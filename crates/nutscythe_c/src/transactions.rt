@@ -4,7 +4,7 @@ ghost use Rattle.std.specs.Prelude.{◌≡◌};
 ghost use Rattle.nutscythe_c.specs.declared.status.Status.{Status as TheStatus};
 ghost use Rattle.nutscythe_c.specs.Calls.{number};
 ghost use Rattle.nutscythe_c.specs.Objects.{OfFirst};
-ghost use Rattle.nutscythe_c.specs.Transactions.{Given, GivenTo, GivesBy, GivesTo, enqueued_status, heard_of, state_number, state_of};
+ghost use Rattle.nutscythe_c.specs.Transactions.{GivenBy, GivenTo, GivesBy, GivesTo, enqueued_status, heard_of, state_number, state_of};
 
 use crate::handle::Handle;
 use crate::kept::Kept;
@@ -158,7 +158,7 @@ fn give(
     }
 }
 
-/// Hears and queues it, of a request that didn't end with an error.
+/// Hears and queues it, of a request that didn't end with an error, unless the connection is to be closed.
 fn give_going(
     alloc: Global,
     opened: &mut Connection,
@@ -168,8 +168,11 @@ fn give_going(
     heard: Heard,
     reply: &[u8],
 ) -> Status
-    ensures { Given at state heard reply.now opened.old opened.new request.old request.new result }
+    ensures { GivenBy opened.old.is_closing at state heard reply.now opened.old opened.new request.old request.new result }
 {
+    if opened.is_closing() {
+        return Status::Nothing;
+    }
     if reply.len() > 65535 {
         return Status::TooLong;
     }

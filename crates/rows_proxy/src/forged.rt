@@ -1,7 +1,7 @@
 //! A query that is sent many forged answers.
 
 use crate::made::{CLIENT, UPSTREAM, next_proxy};
-use dns_fronts::CachedFront;
+use dns_fronts::{CachedFront, ServerFront};
 use dns_name::{Octets, SocketAddr};
 use dns_proxy::{
     ClientMessage, ClientTransport, LookupEvent, Proxy, QueryOutcome, Started, WhenFull,
@@ -47,7 +47,7 @@ fn count_taken(row: &mut Row<'_>) {
 }
 
 /// Whether an upstream is asked for the datagram of the next word.
-fn begun(row: &mut Row<'_>, proxy: &mut Proxy<CachedFront>) -> bool {
+fn begun(row: &mut Row<'_>, proxy: &mut Proxy<ServerFront<CachedFront>>) -> bool {
     let octets = Octets::from_vec(row.vector());
     let came = ClientMessage {
         client: 1,
@@ -64,7 +64,12 @@ fn begun(row: &mut Row<'_>, proxy: &mut Proxy<CachedFront>) -> bool {
 }
 
 /// How many of so many answers lead to anything. Their identifiers are all in turn; where one is the right one, its port is not.
-fn count(row: &mut Row<'_>, proxy: &mut Proxy<CachedFront>, times: u64, rest: &[u8]) -> u64 {
+fn count(
+    row: &mut Row<'_>,
+    proxy: &mut Proxy<ServerFront<CachedFront>>,
+    times: u64,
+    rest: &[u8],
+) -> u64 {
     let mut taken = 0u64;
     for number in 0..times {
         let id = (number % 65536) as u16;
@@ -79,7 +84,7 @@ fn count(row: &mut Row<'_>, proxy: &mut Proxy<CachedFront>, times: u64, rest: &[
 /// Whether an answer under an identifier from a port of the upstream's address leads to anything.
 fn leads(
     row: &mut Row<'_>,
-    proxy: &mut Proxy<CachedFront>,
+    proxy: &mut Proxy<ServerFront<CachedFront>>,
     id: u16,
     port: u16,
     rest: &[u8],

@@ -1,7 +1,7 @@
 //! Proxies of rows.
 
 use dns_cache::Cache;
-use dns_fronts::{CachedFront, LayeredFront, Network};
+use dns_fronts::{CachedFront, Network, ServerFront};
 use dns_name::{Addrs, IpAddr, SocketAddr};
 use dns_proxy::{Proxy, UpstreamConfig};
 use dns_service::{DgramConfig, Settings};
@@ -28,12 +28,12 @@ pub(crate) fn next_proxy(
     row: &mut Row<'_>,
     settings: Settings,
     required: Vec<Network>,
-) -> Result<Proxy<CachedFront>, RowError> {
+) -> Result<Proxy<ServerFront<CachedFront>>, RowError> {
     let bound: usize = row.number();
     let capacity: usize = row.number();
     match Cache::new(row.alloc(), capacity) {
         Ok(cache) => {
-            let front = CachedFront::new(LayeredFront::new(settings, required), cache);
+            let front = ServerFront::new(settings, required, cache);
             Ok(Proxy::new(row.alloc(), front, DgramConfig::new(), bound))
         }
         Err(_) => Err(RowError::OutOfMemory),

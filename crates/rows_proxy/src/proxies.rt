@@ -1,7 +1,7 @@
 //! Rows of proxies that steps are taken with.
 
 use crate::made::{CLIENT, UPSTREAM, next_cookies, next_network, next_proxy, next_secret};
-use dns_fronts::{CachedFront, Network};
+use dns_fronts::{CachedFront, Network, ServerFront};
 use dns_name::{Octets, OutOfMemory, SocketAddr};
 use dns_proxy::{
     ClientMessage, ClientTransport, LookupEvent, Proxy, QueryOutcome, Started, WhenFull,
@@ -47,7 +47,7 @@ fn step_all(row: &mut Row<'_>, settings: Settings, required: Vec<Network>) {
 /// A proxy that steps are taken with.
 #[derive(Drop)]
 struct Stepped {
-    proxy: Proxy<CachedFront>,
+    proxy: Proxy<ServerFront<CachedFront>>,
 }
 
 impl Steps for Stepped {
@@ -92,7 +92,7 @@ impl Steps for Stepped {
 /// upstream, and the octets.
 fn began(
     row: &mut Row<'_>,
-    proxy: &mut Proxy<CachedFront>,
+    proxy: &mut Proxy<ServerFront<CachedFront>>,
     transport: ClientTransport,
     when_full: WhenFull,
 ) {
@@ -123,7 +123,7 @@ fn began(
 }
 
 /// When a tick at the place of the next word is due.
-fn due(row: &mut Row<'_>, proxy: &Proxy<CachedFront>) {
+fn due(row: &mut Row<'_>, proxy: &Proxy<ServerFront<CachedFront>>) {
     let place: usize = row.number();
     match proxy.deadline(place) {
         Some(at) => row.show(&at),

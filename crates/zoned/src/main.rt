@@ -1,7 +1,7 @@
 //! A name server: serves the zones of a configuration, judges a configuration, or speaks to a server that runs.
 //!
-//! - `words` has the words of the command line, `load` reads configurations and zones, `control` and `ctl` are the two ends of
-//!   the control socket.
+//! - `words` has the words of the command line, and `load` reads configurations and zones. `orders` are what a running server is
+//!   asked for, and `measures` what it tells at its page of metrics.
 //! - `server` goes from generation to generation: it looks every 50 ms whether something is asked, and shuts the listeners
 //!   down where something else is to be served. `served` is what is served at a time.
 //!
@@ -29,9 +29,9 @@ ghost use Rattle.clap.specs.Values.{kind_of};
 ghost use Rattle.clap.specs.declared.error.kind.ErrorKind.TheVariants.{DisplayHelp, DisplayVersion};
 
 mod configuration;
-mod control;
-mod ctl;
 mod load;
+mod measures;
+mod orders;
 mod served;
 mod server;
 mod words;
@@ -54,7 +54,7 @@ fn performed<
 {
     match matches.subcommand() {
         Some(("check", words)) => load::check(rt, words::config(words))?,
-        Some((_, words)) => ctl::ask(&machine, rt, words::config(words), words::order(words))?,
+        Some((_, words)) => orders::ask(&machine, rt, words::config(words), words::order(words))?,
         None => server::serve(machine, rt, words::config(matches))?,
     }
     Ok(ExitCode::SUCCESS)

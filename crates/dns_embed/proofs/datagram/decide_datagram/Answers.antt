@@ -1,5 +1,5 @@
 -- What is decided about the query that was read is done about the datagram.
-use Rattle.std.proofs.Common.{◌≡◌, ◌≤◌, ◌∙◌, List, ℕ, length, sym, subst}
+use Rattle.std.proofs.Common.{◌≤◌, ◌∙◌, List, ℕ, length, sym, subst}
 use Rattle.dns_session.specs.Datagrams.{cut_datagram}
 use Rattle.dns_embed.proofs.Decides.{datagram-exchanged}
 use Rattle.dns_embed.proofs.datagram.decide_datagram.Goals as goal
