@@ -1,1 +1,2 @@
 mod Sifted
+mod Ties
