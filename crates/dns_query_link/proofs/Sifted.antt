@@ -1,5 +1,5 @@
 -- The frames of octets, of which those of queries are passed on.
-use Rattle.std.proofs.Common.{◌≡◌, ℕ, zero, suc, ◌+◌, ◌*◌, ◌/◌, ◌%◌, ◌^◌, ◌-◌, ◌<◌, ◌≤◌, Bool, true, false, not, cond, if◌then◌else◌, List, [], ◌∷◌, ◌++◌, length, get_or, take, drop, min, refl, ap, sym, subst, ◌∙◌, arith, append_assoc, append-nil, length-append, length-drop}
+use Rattle.std.proofs.Common.{◌≡◌, ℕ, zero, suc, ◌+◌, ◌*◌, ◌/◌, ◌%◌, ◌^◌, ◌-◌, ◌<◌, ◌≤◌, Bool, true, false, not, cond, if◌then◌else◌, List, [], ◌∷◌, ◌++◌, length, get_or, take, drop, min, inl, inr, refl, ap, sym, subst, ◌∙◌, arith, append_assoc, append-nil, length-append, length-drop}
 use Rattle.std.specs.Prelude.{filter, count_by, All}
 use Rattle.std.specs.List.{flat_map}
 use Rattle.std.proofs.lemmas.Bool.{cases_lt}
@@ -71,41 +71,38 @@ pub record IsSifted (first before now waiting : List ℕ) (dropped : ℕ) : Type
   pub left : behind_frames now ≡ behind_frames first
   pub given : waiting ++ passed_on now ≡ before ++ passed_on first
   pub dropped_is : min (dropped + responses now) (2 ^ 64 - 1) ≡ min (responses first) (2 ^ 64 - 1)
+  pub counted : dropped ≤ 2 ^ 64 - 1
   pub grows : length before ≤ length waiting
 
 pub sifted_first : (first before : List ℕ) → AreOctets first → IsSifted first before first before 0
-sifted_first first before are = record { octets = are; left = refl; given = refl; dropped_is = ap (λ (n : ℕ). min n (2 ^ 64 - 1)) (omega arith); grows = omega arith }
+sifted_first first before are = record { octets = are; left = refl; given = refl; dropped_is = omega arith; counted = omega arith; grows = omega arith }
 
--- how many are dropped with one message more
-abbrev pub dropped_more : Bool → ℕ → ℕ
-dropped_more query dropped = if query then dropped else min (dropped + 1) (2 ^ 64 - 1)
-
-counts_on : (b : Bool) (n left first : ℕ) → min (n + ((if b then 1 else 0) + left)) (2 ^ 64 - 1) ≡ min first (2 ^ 64 - 1) → min (dropped_more (not b) n + left) (2 ^ 64 - 1) ≡ min first (2 ^ 64 - 1)
-counts_on true n left first h = omega arith
-counts_on false n left first h = omega arith
+counts_on : (one n left first : ℕ) → min (n + (one + left)) (2 ^ 64 - 1) ≡ min first (2 ^ 64 - 1) → min (min (n + one) (2 ^ 64 - 1) + left) (2 ^ 64 - 1) ≡ min first (2 ^ 64 - 1)
+counts_on one n left first h = omega arith
 
 pub sifted_more : (first before o f r waiting waiting' : List ℕ) (dropped dropped' : ℕ) → frames o ≡ f ∷ frames r → o ≡ framed f ++ r → IsSifted first before o waiting dropped
-    → waiting' ≡ waiting ++ framed_query f → dropped' ≡ dropped_more (is_query f) dropped → IsSifted first before r waiting' dropped'
+    → waiting' ≡ waiting ++ framed_query f → dropped' ≡ min (dropped + (if is_response f then 1 else 0)) (2 ^ 64 - 1) → IsSifted first before r waiting' dropped'
 sifted_more first before o f r waiting waiting' dropped dropped' all whole s given is = record {
   octets = rest_octets o f r all whole s.octets;
   left = sym (behind o f r all whole) ∙ s.left;
   given = ap (λ (l : List ℕ). l ++ passed_on r) given ∙ (append_assoc waiting (framed_query f) (passed_on r) ∙ (ap (λ (l : List ℕ). waiting ++ l) (sym (passed o f r all whole)) ∙ s.given));
   dropped_is =
       let h : min (dropped + ((if is_response f then 1 else 0) + responses r)) (2 ^ 64 - 1) ≡ min (responses first) (2 ^ 64 - 1) = ap (λ (n : ℕ). min (dropped + n) (2 ^ 64 - 1)) (sym (counted o f r all whole)) ∙ s.dropped_is in
-      ap (λ (n : ℕ). min (n + responses r) (2 ^ 64 - 1)) is ∙ counts_on (is_response f) dropped (responses r) (responses first) h;
+      ap (λ (n : ℕ). min (n + responses r) (2 ^ 64 - 1)) is ∙ counts_on (if is_response f then 1 else 0) dropped (responses r) (responses first) h;
+  counted = omega (arith, is);
   grows = omega (arith, s.grows, ap length given, length-append waiting (framed_query f));
 }
 
 pub record AllSifted (first before now waiting : List ℕ) (dropped : ℕ) : Type 0 where
   pub left : now ≡ behind_frames first
   pub given : waiting ≡ before ++ passed_on first
-  pub dropped_is : min dropped (2 ^ 64 - 1) ≡ min (responses first) (2 ^ 64 - 1)
+  pub dropped_is : dropped ≡ min (responses first) (2 ^ 64 - 1)
 
 pub sifted_all : (first before o waiting : List ℕ) (dropped : ℕ) → frames o ≡ [] → IsSifted first before o waiting dropped → AllSifted first before o waiting dropped
 sifted_all first before o waiting dropped none s = record {
   left = sym (none_left o none) ∙ s.left;
   given = sym (append-nil waiting) ∙ (ap (λ (l : List ℕ). waiting ++ l) (sym (none_passed o none)) ∙ s.given);
-  dropped_is = omega (arith, s.dropped_is, none_counted o none);
+  dropped_is = omega (arith, s.dropped_is, s.counted, none_counted o none);
 }
 
 -- ---- octets that come later
@@ -123,7 +120,7 @@ octets_more o p are more = λ k d within.
 pub passed_later : (o p : List ℕ) → passed_on (o ++ p) ≡ passed_on o ++ passed_on (behind_frames o ++ p)
 passed_later o p =
     ap queries_of (goes o p).all ∙ (ap (λ (l : List (List ℕ)). flat_map framed l) (filter-append is_query (frames o) (frames (behind_frames o ++ p)))
-      ∙ flat_map-append framed (filter is_query (frames o)) (filter is_query (frames (behind_frames o ++ p))))
+    ∙ flat_map-append framed (filter is_query (frames o)) (filter is_query (frames (behind_frames o ++ p))))
 
 -- octets that wait, of which some are moved to the front of a buffer
 pub moved : (at n : ℕ) (w d buf front waiting : List ℕ) → d ≡ w → waiting ≡ drop at w → n ≤ length (take (length d - at) (drop at d)) → front ≡ take n (take (length d - at) (drop at d)) → waiting ≡ take n (front ++ drop n buf) ++ drop (at + n) w

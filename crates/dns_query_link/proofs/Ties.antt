@@ -1,18 +1,15 @@
 -- What a link without responses holds stays that of what came.
 use Rattle.std.proofs.Common.{◌≡◌, ℕ, zero, suc, ◌+◌, ◌-◌, ◌^◌, ◌<◌, ◌≤◌, ◌==◌, Bool, true, false, not, ◌&&◌, List, [], ◌∷◌, ◌++◌, length, take, drop, min, refl, ap, sym, subst, ◌∙◌, arith, append_assoc, append-nil, length-append}
 use Rattle.std.proofs.lemmas.Bool.{false≢true}
-use Rattle.std.proofs.lemmas.Bool.Decides.{nat_tests}
-use Rattle.std.proofs.lemmas.List.{drop_at, length-take-le, nil_from_length, take_at}
+use Rattle.std.proofs.lemmas.List.{drop_at, take_at}
 use Rattle.dns_framing.specs.Frames.{behind_frames}
 use Rattle.dns_framing.proofs.FramesLemmas.{frames_none, goes, rest_none}
 use Rattle.dns_io.specs.Causes.{Observed}
-use Rattle.dns_io.specs.Traffic.{Traffic, LinkReadBound, LinkReadMoves, LinkWriteMoves}
+use Rattle.dns_io.specs.Traffic.{Traffic, LinkReadMoves}
 use Rattle.dns_io.specs.declared.link.LinkRead.{LinkRead}
 use Rattle.dns_io.specs.declared.link.LinkRead.TheVariants.{Got, Again, End, Failed}
-use Rattle.dns_io.specs.declared.link.LinkWrite.{LinkWrite}
-use Rattle.dns_io.specs.declared.link.LinkWrite.TheVariants.{Took, Again as WriteAgain, Failed as WriteFailed}
 use Rattle.dns_query_link.specs.QueryFrames.{Held, nothing_held, passed_on, with_piece}
-use Rattle.dns_query_link.specs.QueryReads.{Reads, no_reads, Takes, Gives, GivesSome, came_since, given_since, IsTied, IsCounted, without_responses, LeavesNone, WasAsked}
+use Rattle.dns_query_link.specs.QueryReads.{Reads, no_reads, Takes, Gives, GivesSome, came_since, given_since, IsTied, IsCounted, without_responses}
 use Rattle.dns_query_link.proofs.Sifted.{none_passed, passed_later}
 
 -- ---- the octets that came, by parts
@@ -52,7 +49,7 @@ parts_more before came came' since given piece h p more =
       came_is = more ∙ (ap (λ (l : List ℕ). l ++ piece) p.came_is ∙ append_assoc before since piece);
       kept = ap behind_frames on ∙ sym (goes since piece).left;
       passed = passed_later since piece ∙ (ap (λ (l : List ℕ). l ++ passed_on (behind_frames since ++ piece)) p.passed
-        ∙ (append_assoc given h.waiting (passed_on (behind_frames since ++ piece)) ∙ ap (λ (l : List ℕ). given ++ (h.waiting ++ l)) (sym later)));
+          ∙ (append_assoc given h.waiting (passed_on (behind_frames since ++ piece)) ∙ ap (λ (l : List ℕ). given ++ (h.waiting ++ l)) (sym later)));
     }
 
 -- some octets that waited were given
@@ -82,7 +79,7 @@ abbrev Ties : Type 0 → List ℕ → Traffic → Reads → Type 0
 Ties told before t r = told → r.ended ≡ false → IsTied before t.came r.held
 
 module _ (told : Type 0) (before : List ℕ) (t : Traffic) where
-  gives_ties : (result : LinkRead) (buf : List ℕ) (a b : Reads) → Gives result buf a b → Ties told before t a → Ties told before t b
+  pub gives_ties : (result : LinkRead) (buf : List ℕ) (a b : Reads) → Gives result buf a b → Ties told before t a → Ties told before t b
   gives_ties (Got n) buf a b g tied now live =
       let p = parts_of before t.came a.held (tied now (sym g.ended ∙ live)) in
       tied_by before t.came _ _ b.held (parts_given before t.came _ _ (take n buf) a.held b.held p g.waiting g.kept)
@@ -106,30 +103,6 @@ module _ (told now : Type 0) (before : List ℕ) (t u : Traffic) (n : ℕ) (buf 
       let is : Held → Type 0 = λ (h : Held). IsTied before u.came h in
       subst is (sym same) (tied_by before u.came _ _ _ (parts_more before t.came u.came _ _ (take n buf) a.held p (ap (λ (x : Traffic). x.came) m.1)))
 
--- a read that gave none
-abbrev GaveNone : LinkRead → Type 0
-GaveNone (Got n) = ⊥
-GaveNone Again = Unit {0}
-GaveNone End = Unit {0}
-GaveNone Failed = Unit {0}
-
-none_came : (answer : LinkRead) (buf : List ℕ) (t u : Traffic) → GaveNone answer → LinkReadMoves answer buf t u → u.came ≡ t.came
-none_came (Got n) buf t u none m = absurd none
-none_came Again buf t u none m = ap (λ (x : Traffic). x.came) m
-none_came End buf t u none m = ap (λ (x : Traffic). x.came) m
-none_came Failed buf t u none m = ap (λ (x : Traffic). x.came) m
-
-none_went : (answer : LinkWrite) (piece : List ℕ) (t u : Traffic) → LinkWriteMoves answer piece t u → u.came ≡ t.came
-none_went (Took n) piece t u m = ap (λ (x : Traffic). x.came) m
-none_went WriteAgain piece t u m = ap (λ (x : Traffic). x.came) m
-none_went WriteFailed piece t u m = ap (λ (x : Traffic). x.came) m
-
-same_ties : (told now : Type 0) (before : List ℕ) (t u : Traffic) (r : Reads) → Observed now told (u.came ≡ t.came) → Ties told before t r → Ties now before u r
-same_ties told now before t u r moves tied is_now live =
-    let m = moves.observed is_now in
-    let is : List ℕ → Type 0 = λ (x : List ℕ). IsTied before x r.held in
-    subst is (sym m.1) (tied m.0 live)
-
 -- ---- what the link tells
 
 abbrev made : Traffic → List ℕ → ℕ → Traffic
@@ -145,19 +118,21 @@ module _ (told : Type 0) (before : List ℕ) (t : Traffic) where
         let p = parts_of before t.came a.held (tied now.0 live) in
         let after = parts_given before t.came _ _ (take n buf) a.held b.held p g.waiting g.kept in
         let came : before ++ given_since before t.came b.held.waiting ≡ before ++ given_since before t.came a.held.waiting ++ take n buf
-            = ap (λ (l : List ℕ). before ++ l) (given_is before t.came _ _ b.held after) ∙ sym (append_assoc before (given_since before t.came a.held.waiting) (take n buf)) in
-        let count : t.empty_reads + b.vain ≡ t.empty_reads + a.vain = ap (λ (k : ℕ). t.empty_reads + k) g.vain in
-        ((now.0, (live, omega (arith, now.1.1, g.vain))),
-          ap (λ (c : List ℕ). made t c (t.empty_reads + b.vain)) came ∙ ap (made t (before ++ given_since before t.came a.held.waiting ++ take n buf)) count);
+        = ap (λ (l : List ℕ). before ++ l) (given_is before t.came _ _ b.held after) ∙ sym (append_assoc before (given_since before t.came a.held.waiting) (take n buf)) in
+        let count : t.empty_reads + b.vain ≡ t.empty_reads + a.vain = ap (λ (k : ℕ). t.empty_reads + k) g.vain in (
+          (now.0, (live, omega (arith, now.1.1, g.vain))),
+          ap (λ (c : List ℕ). made t c (t.empty_reads + b.vain)) came ∙ ap (made t (before ++ given_since before t.came a.held.waiting ++ take n buf)) count,
+        );
   }
   gives_moves Again buf a b g tied = record {
     observed = λ now.
         let vain : b.vain ≡ min (a.vain + 1) (2 ^ 64 - 1) = ap (λ (r : Reads). r.vain) g.2 in
         let more : b.vain ≡ a.vain + 1 = omega (arith, vain, now.1.1) in
         let same : b.held.waiting ≡ a.held.waiting = ap (λ (r : Reads). r.held.waiting) g.2 in
-        let count : t.empty_reads + b.vain ≡ t.empty_reads + a.vain + 1 = omega (arith, more) in
-        ((now.0, (g.0, omega (arith, now.1.1, more))),
-          ap (λ (w : List ℕ). made t (before ++ given_since before t.came w) (t.empty_reads + b.vain)) same ∙ ap (made t (before ++ given_since before t.came a.held.waiting)) count);
+        let count : t.empty_reads + b.vain ≡ t.empty_reads + a.vain + 1 = omega (arith, more) in (
+          (now.0, (g.0, omega (arith, now.1.1, more))),
+          ap (λ (w : List ℕ). made t (before ++ given_since before t.came w) (t.empty_reads + b.vain)) same ∙ ap (made t (before ++ given_since before t.came a.held.waiting)) count,
+        );
   }
   gives_moves End buf a b g tied = record { observed = λ now. absurd (false≢true (sym now.1.0 ∙ (ap (λ (r : Reads). r.ended) g.1 ∙ g.0))) }
   gives_moves Failed buf a b g tied = absurd g
@@ -181,6 +156,10 @@ module _ (told now : Type 0) (before : List ℕ) (t u : Traffic) (n : ℕ) (came
       let by_reads = subst (λ (r : Reads). at (record t { came = t.came ++ take n came }) r) (sym (takes counted.0)) first in
       ((m.0, (live, omega (arith, counted.1, vain))), subst (λ (x : Traffic). at x b) (sym m.1) by_reads)
 
+pub taken_ties : (told now : Type 0) (before : List ℕ) (t u : Traffic) (n : ℕ) (came : List ℕ) (result : LinkRead) (buf : List ℕ) (a b d : Reads) → Ties told before t a
+    → Observed now told (LinkReadMoves (Got n) came t u) → Takes (take n came) a b → Gives result buf b d → Ties now before u d
+taken_ties told now before t u n came result buf a b d tied moves takes gives = gives_ties now before u result buf b d gives (takes_ties told now before t u n came moves a b takes tied)
+
 pub taken_moves : (told now : Type 0) (before : List ℕ) (t u : Traffic) (n : ℕ) (came : List ℕ) (result : LinkRead) (buf : List ℕ) (a b d : Reads) → Ties told before t a
     → Observed now told (LinkReadMoves (Got n) came t u) → Takes (take n came) a b → Gives result buf b d
     → Observed (now × IsCounted d) (told × IsCounted a) (LinkReadMoves result buf (without_responses before a t) (without_responses before d u))
@@ -192,103 +171,3 @@ taken_moves told now before t u n came result buf a b d tied moves takes gives =
       let is : Traffic → Type 0 = λ (x : Traffic). LinkReadMoves result buf x (without_responses before d u) in
       (s.0, subst is s.1 g.1);
 }
-
--- the link gave none, and all stays
-others_move : (answer : LinkRead) (buf before : List ℕ) (r : Reads) (t u : Traffic) → GaveNone answer → LinkReadMoves answer buf t u → LinkReadMoves answer buf (without_responses before r t) (without_responses before r u)
-others_move (Got n) buf before r t u none m = absurd none
-others_move Again buf before r t u none m =
-    let count : t.empty_reads + 1 + r.vain ≡ t.empty_reads + r.vain + 1 = omega arith in
-    ap (without_responses before r) m ∙ ap (λ (k : ℕ). record t { came = before ++ given_since before t.came r.held.waiting; empty_reads = k }) count
-others_move End buf before r t u none m = ap (without_responses before r) m
-others_move Failed buf before r t u none m = ap (without_responses before r) m
-
-sends_move : (answer : LinkWrite) (piece before : List ℕ) (r : Reads) (t u : Traffic) → LinkWriteMoves answer piece t u → LinkWriteMoves answer piece (without_responses before r t) (without_responses before r u)
-sends_move (Took n) piece before r t u m = ap (without_responses before r) m
-sends_move WriteAgain piece before r t u m = ap (without_responses before r) m
-sends_move WriteFailed piece before r t u m = ap (without_responses before r) m
-
--- ---- by the calls of the link
-
-module _ (told now : Type 0) (before : List ℕ) (t u : Traffic) (r : Reads) where
-  pub read_on : (answer : LinkRead) (buf : List ℕ) → GaveNone answer → Observed now told (LinkReadMoves answer buf t u)
-      → Observed (now × IsCounted r) (told × IsCounted r) (LinkReadMoves answer buf (without_responses before r t) (without_responses before r u))
-  read_on answer buf none moves = record { observed = λ n. let m = moves.observed n.0 in ((m.0, n.1), others_move answer buf before r t u none m.1) }
-
-  pub read_tied : (answer : LinkRead) (buf : List ℕ) → GaveNone answer → Observed now told (LinkReadMoves answer buf t u) → Ties told before t r → Ties now before u r
-  read_tied answer buf none moves tied = same_ties told now before t u r (record { observed = λ n. let m = moves.observed n in (m.0, none_came answer buf t u none m.1) }) tied
-
-  pub write_on : (answer : LinkWrite) (piece : List ℕ) → Observed now told (LinkWriteMoves answer piece t u)
-      → Observed (now × IsCounted r) (told × IsCounted r) (LinkWriteMoves answer piece (without_responses before r t) (without_responses before r u))
-  write_on answer piece moves = record { observed = λ n. let m = moves.observed n.0 in ((m.0, n.1), sends_move answer piece before r t u m.1) }
-
-  pub write_tied : (answer : LinkWrite) (piece : List ℕ) → Observed now told (LinkWriteMoves answer piece t u) → Ties told before t r → Ties now before u r
-  write_tied answer piece moves tied = same_ties told now before t u r (record { observed = λ n. let m = moves.observed n in (m.0, none_went answer piece t u m.1) }) tied
-
-  pub still_on : Observed now told (u ≡ t) → Observed (now × IsCounted r) (told × IsCounted r) (without_responses before r u ≡ without_responses before r t)
-  still_on moves = record { observed = λ n. let m = moves.observed n.0 in ((m.0, n.1), ap (without_responses before r) m.1) }
-
-  pub still_tied : Observed now told (u ≡ t) → Ties told before t r → Ties now before u r
-  still_tied moves tied = same_ties told now before t u r (record { observed = λ n. let m = moves.observed n in (m.0, ap (λ (x : Traffic). x.came) m.1) }) tied
-
--- ---- what a read leaves, and what it asked of the link
-
-pub gives_none : (result : LinkRead) (buf : List ℕ) (a b : Reads) → Gives result buf a b → LeavesNone result b
-gives_none (Got n) buf a b g = tt
-gives_none Again buf a b g = λ live. ap (λ (r : Reads). r.held.waiting) g.2 ∙ g.1
-gives_none End buf a b g = λ live. absurd (false≢true (sym live ∙ (ap (λ (r : Reads). r.ended) g.1 ∙ g.0)))
-gives_none Failed buf a b g = absurd g
-
--- whether octets are wanted
-abbrev wants : Reads → Bool
-wants r = not r.ended && (length r.held.waiting == 0)
-
-both : (f g : Bool) → (f && g) ≡ true → (f ≡ true) × (g ≡ true)
-both true true e = (refl, refl)
-both true false e = absurd (false≢true e)
-both false g e = absurd (false≢true e)
-
-wanted : (r : Reads) → wants r ≡ true → r.held.waiting ≡ []
-wanted r w = nil_from_length r.held.waiting (grind (arith, nat_tests, (both (not r.ended) (length r.held.waiting == 0) w).1))
-
-pub wanted_none : (answer : LinkRead) (r : Reads) → GaveNone answer → wants r ≡ true → LeavesNone answer r
-wanted_none (Got n) r none w = tt
-wanted_none Again r none w = λ live. wanted r w
-wanted_none End r none w = λ live. wanted r w
-wanted_none Failed r none w = λ live. wanted r w
-
-wants_of : (r : Reads) → r.ended ≡ false → r.held.waiting ≡ [] → wants r ≡ true
-wants_of r live none = ap (λ (b : Bool). not b && (length r.held.waiting == 0)) live ∙ ap (λ (l : List ℕ). length l == 0) none
-
--- octets waited, or memory was wanting
-pub unasked : (told : Type 0) (result : LinkRead) (buf : List ℕ) (t : Traffic) (a b : Reads) → wants a ≡ false → Gives result buf a b → Observed told told (WasAsked result buf t t)
-unasked told (Got n) buf t a b w g = record { observed = λ n. (n, tt) }
-unasked told Again buf t a b w g = absurd (false≢true (sym w ∙ wants_of a g.0 g.1))
-unasked told End buf t a b w g = record { observed = λ n. (n, tt) }
-unasked told Failed buf t a b w g = absurd g
-
-some_came : (result : LinkRead) (n : ℕ) (came buf : List ℕ) (t u : Traffic) → length came ≡ length buf → LinkReadBound (Got n) came → LinkReadMoves (Got n) came t u → WasAsked result buf t u
-some_came (Got k) n came buf t u same bound m = tt
-some_came Again n came buf t u same bound m = λ room.
-    let some : 1 ≤ n = bound.1 (omega (arith, same, room)) in
-    let size : length (t.came ++ take n came) ≡ length t.came + n = length-append t.came (take n came) ∙ ap (λ (k : ℕ). length t.came + k) (length-take-le n came bound.0) in
-    let more : length u.came ≡ length t.came + n = ap (λ (x : Traffic). length x.came) m ∙ size in
-    let same_count : u.empty_reads ≡ t.empty_reads = ap (λ (x : Traffic). x.empty_reads) m in
-    omega (arith, some, more, same_count)
-some_came End n came buf t u same bound m = tt
-some_came Failed n came buf t u same bound m = tt
-
-pub asked : (told now : Type 0) (result : LinkRead) (n : ℕ) (came buf : List ℕ) (t u : Traffic) → length came ≡ length buf → LinkReadBound (Got n) came
-    → Observed now told (LinkReadMoves (Got n) came t u) → Observed now told (WasAsked result buf t u)
-asked told now result n came buf t u same bound moves = record { observed = λ k. let m = moves.observed k in (m.0, some_came result n came buf t u same bound m.1) }
-
-none_asked : (answer : LinkRead) (buf : List ℕ) (t u : Traffic) → GaveNone answer → LinkReadMoves answer buf t u → WasAsked answer buf t u
-none_asked (Got n) buf t u none m = tt
-none_asked Again buf t u none m = λ room.
-    let came : length u.came ≡ length t.came = ap (λ (x : Traffic). length x.came) m in
-    let count : u.empty_reads ≡ t.empty_reads + 1 = ap (λ (x : Traffic). x.empty_reads) m in
-    omega (arith, came, count)
-none_asked End buf t u none m = tt
-none_asked Failed buf t u none m = tt
-
-pub asked_for_none : (told now : Type 0) (answer : LinkRead) (buf : List ℕ) (t u : Traffic) → GaveNone answer → Observed now told (LinkReadMoves answer buf t u) → Observed now told (WasAsked answer buf t u)
-asked_for_none told now answer buf t u none moves = record { observed = λ k. let m = moves.observed k in (m.0, none_asked answer buf t u none m.1) }

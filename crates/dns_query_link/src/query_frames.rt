@@ -2,6 +2,7 @@
 
 ghost use Rattle.std.specs.Prelude.{◌≡◌, ◌≤◌, ◌<◌, ◌-◌, ◌^◌, ◌++◌, ◌==◌, [], length, min, take, if◌then◌else◌, IfOk, OnOk, OnErr};
 ghost use Rattle.dns_query_link.specs.Frames.{behind_frames, framed};
+ghost use Rattle.dns_query_sock.specs.Queries.{is_response};
 ghost use Rattle.dns_query_link.specs.QueryFrames.{AreOctets, is_query, nothing_held, passed_on, responses, with_piece};
 
 use dns_framing::Framer;
@@ -30,21 +31,21 @@ impl Model for QueryFrames {
     ghost invariant = { λ f. (f.at ≤ length f.waiting.items) × AreOctets f.framer };
 }
 
-/// Appends a message behind its length to the octets that wait, if it is a query. Whether it is one.
-fn pass_on(message: &[u8], waiting: &mut Vec<u8>) -> Result<bool, OutOfMemory>
+/// Appends a message behind its length to the octets that wait, if it is a query. How many responses are dropped with it: one or none.
+fn pass_on(message: &[u8], waiting: &mut Vec<u8>) -> Result<u64, OutOfMemory>
     requires { length message.now < 65536 }
-    ensures query { IfOk result (λ passed. passed ≡ is_query message.now) }
+    ensures dropped { IfOk result (λ n. n ≡ (if is_response message.now then 1 else 0)) }
     ensures given { OnOk result
         (waiting.new.items ≡ waiting.old.items ++ (if is_query message.now then framed message.now else [])) }
     ensures grows { length waiting.old.items ≤ length waiting.new.items }
 {
     if is_response(message) {
-        return Ok(false);
+        return Ok(1);
     }
     let size = message.len();
     waiting.extend_from_slice(&[(size / 256) as u8, (size % 256) as u8])?;
     waiting.extend_from_slice(message)?;
-    Ok(true)
+    Ok(0)
 }
 
 /// Takes each whole frame, and appends those of queries to the octets that wait. How many responses were dropped.
@@ -58,9 +59,7 @@ fn sift(alloc: Global, framer: &mut Framer, waiting: &mut Vec<u8>) -> Result<u64
 {
     let mut dropped: u64 = 0;
     'each: while let Some(message) = framer.next(alloc)? {
-        if !pass_on(message.as_slice(), waiting)? {
-            dropped = dropped.saturating_add(1);
-        }
+        dropped = dropped.saturating_add(pass_on(message.as_slice(), waiting)?);
     }
     Ok(dropped)
 }

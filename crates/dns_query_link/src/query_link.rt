@@ -53,8 +53,8 @@ impl<L: Link> Link for QueryLink<L> {
     fn read(&mut self, buf: &mut [u8]) -> LinkRead
         ensures moves { Observed (L.tells self.new.inner × IsCounted self.new.reads) (L.tells self.old.inner × IsCounted self.old.reads)
             (LinkReadMoves result buf.new
-                (without_responses (L.traffic self.old.start.value).came self.old.reads (L.traffic self.old.inner))
-                (without_responses (L.traffic self.new.start.value).came self.new.reads (L.traffic self.new.inner))) }
+            (without_responses (L.traffic self.old.start.value).came self.old.reads (L.traffic self.old.inner))
+            (without_responses (L.traffic self.new.start.value).came self.new.reads (L.traffic self.new.inner))) }
         ensures bound { LinkReadBound result buf.new }
         ensures later { L.faults self.old.inner ≤ L.faults self.new.inner }
         ensures cause { LinkReadCause result (L.faults self.old.inner) (L.faults self.new.inner) }

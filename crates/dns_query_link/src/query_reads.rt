@@ -31,6 +31,13 @@ impl Model for QueryReads {
     ghost view = { λ r. record { held = r.frames; vain = r.vain; ended = r.ended } };
 }
 
+/// Counts responses that were dropped, where something counts them.
+fn count_dropped(counts: &Option<Arc<QueryCounts>>, dropped: u64) {
+    if let Some(counts) = counts {
+        counts.count_dropped(dropped);
+    }
+}
+
 impl QueryReads {
     /// Nothing came yet. Responses are counted, where something counts them.
     pub(crate) fn new(alloc: Global, counts: Option<Arc<QueryCounts>>) -> QueryReads
@@ -56,10 +63,9 @@ impl QueryReads {
     pub(crate) fn take(&mut self, octets: &[u8])
         ensures { Takes octets.now self.old self.new }
     {
-        match (self.frames.feed(self.alloc, octets), &self.counts) {
-            (Ok(dropped), Some(counts)) => counts.count_dropped(dropped),
-            (Ok(_), None) => {}
-            (Err(_), _) => self.ended = true,
+        match self.frames.feed(self.alloc, octets) {
+            Ok(dropped) => count_dropped(&self.counts, dropped),
+            Err(_) => self.ended = true,
         }
     }
 
