@@ -1,5 +1,5 @@
 -- What a link without responses holds stays that of what came.
-use Rattle.std.proofs.Common.{◌≡◌, ℕ, zero, suc, ◌+◌, ◌-◌, ◌^◌, ◌<◌, ◌≤◌, ◌==◌, Bool, true, false, not, ◌&&◌, List, [], ◌∷◌, ◌++◌, length, take, drop, min, refl, ap, sym, subst, ◌∙◌, arith, append_assoc, append-nil, length-append}
+use Rattle.std.proofs.Common.{◌≡◌, ℕ, ◌+◌, ◌-◌, ◌^◌, false, List, [], ◌++◌, length, take, drop, min, refl, ap, sym, subst, ◌∙◌, arith, append_assoc, append-nil, length-append}
 use Rattle.std.proofs.lemmas.Bool.{false≢true}
 use Rattle.std.proofs.lemmas.List.{drop_at, take_at}
 use Rattle.dns_framing.specs.Frames.{behind_frames}
@@ -9,7 +9,7 @@ use Rattle.dns_io.specs.Traffic.{Traffic, LinkReadMoves}
 use Rattle.dns_io.specs.declared.link.LinkRead.{LinkRead}
 use Rattle.dns_io.specs.declared.link.LinkRead.TheVariants.{Got, Again, End, Failed}
 use Rattle.dns_query_link.specs.QueryFrames.{Held, nothing_held, passed_on, with_piece}
-use Rattle.dns_query_link.specs.QueryReads.{Reads, no_reads, Takes, Gives, GivesSome, came_since, given_since, IsTied, IsCounted, without_responses}
+use Rattle.dns_query_link.specs.QueryReads.{Reads, no_reads, Takes, Gives, came_since, given_since, IsTied, Ties, IsCounted, without_responses}
 use Rattle.dns_query_link.proofs.Sifted.{none_passed, passed_later}
 
 -- ---- the octets that came, by parts
@@ -69,26 +69,26 @@ tied_nothing came h none =
     let p : Parts came came [] [] nothing_held = record { came_is = sym (append-nil came); kept = left; passed = passed } in
     let is : Held → Type 0 = λ (x : Held). IsTied came came x in subst is (sym none) (tied_by came came [] [] nothing_held p)
 
-pub tied_first : (told : Type 0) (came came' : List ℕ) (r : Reads) → came' ≡ came → r ≡ no_reads → told → r.ended ≡ false → IsTied came came' r.held
-tied_first told came came' r same none t f =
-    let is : List ℕ → Type 0 = λ (x : List ℕ). IsTied came x r.held in
-    subst is (sym same) (tied_nothing came r.held (ap (λ (x : Reads). x.held) none))
-
--- the fact that a link keeps: where it tells and memory was never wanting, what is held is of what came
-abbrev Ties : Type 0 → List ℕ → Traffic → Reads → Type 0
-Ties told before t r = told → r.ended ≡ false → IsTied before t.came r.held
+pub tied_first : (told : Type 0) (t u : Traffic) (r : Reads) → u ≡ t → r ≡ no_reads → Ties told t.came u r
+tied_first told t u r same none =
+    let is : Traffic → Type 0 = λ (x : Traffic). Ties told t.came x r in
+    subst is (sym same) (record { ties = λ now live. tied_nothing t.came r.held (ap (λ (x : Reads). x.held) none) })
 
 module _ (told : Type 0) (before : List ℕ) (t : Traffic) where
   pub gives_ties : (result : LinkRead) (buf : List ℕ) (a b : Reads) → Gives result buf a b → Ties told before t a → Ties told before t b
-  gives_ties (Got n) buf a b g tied now live =
-      let p = parts_of before t.came a.held (tied now (sym g.ended ∙ live)) in
-      tied_by before t.came _ _ b.held (parts_given before t.came _ _ (take n buf) a.held b.held p g.waiting g.kept)
-  gives_ties Again buf a b g tied now live =
-      let same : b.held ≡ a.held = ap (λ (r : Reads). r.held) g.2 in
-      let is : Held → Type 0 = λ (h : Held). IsTied before t.came h in
-      subst is (sym same) (tied now g.0)
-  gives_ties End buf a b g tied now live = absurd (false≢true (sym live ∙ (ap (λ (r : Reads). r.ended) g.1 ∙ g.0)))
-  gives_ties Failed buf a b g tied now live = absurd g
+  gives_ties (Got n) buf a b g tied = record {
+    ties = λ now live.
+        let p = parts_of before t.came a.held (tied.ties now (sym g.ended ∙ live)) in
+        tied_by before t.came _ _ b.held (parts_given before t.came _ _ (take n buf) a.held b.held p g.waiting g.kept);
+  }
+  gives_ties Again buf a b g tied = record {
+    ties = λ now live.
+        let same : b.held ≡ a.held = ap (λ (r : Reads). r.held) g.2 in
+        let is : Held → Type 0 = λ (h : Held). IsTied before t.came h in
+        subst is (sym same) (tied.ties now g.0);
+  }
+  gives_ties End buf a b g tied = record { ties = λ now live. absurd (false≢true (sym live ∙ (ap (λ (r : Reads). r.ended) g.1 ∙ g.0))) }
+  gives_ties Failed buf a b g tied = absurd g
 
 -- the octets that a read of the link gave were taken
 module _ (told now : Type 0) (before : List ℕ) (t u : Traffic) (n : ℕ) (buf : List ℕ) (moves : Observed now told (LinkReadMoves (Got n) buf t u)) (a b : Reads) (takes : Takes (take n buf) a b) where
@@ -96,12 +96,14 @@ module _ (told now : Type 0) (before : List ℕ) (t u : Traffic) (n : ℕ) (buf 
   was_live live = sym (ap (λ (r : Reads). r.ended) (takes live)) ∙ live
 
   takes_ties : Ties told before t a → Ties now before u b
-  takes_ties tied is_now live =
-      let m = moves.observed is_now in
-      let same : b.held ≡ with_piece (take n buf) a.held = ap (λ (r : Reads). r.held) (takes live) in
-      let p = parts_of before t.came a.held (tied m.0 (was_live live)) in
-      let is : Held → Type 0 = λ (h : Held). IsTied before u.came h in
-      subst is (sym same) (tied_by before u.came _ _ _ (parts_more before t.came u.came _ _ (take n buf) a.held p (ap (λ (x : Traffic). x.came) m.1)))
+  takes_ties tied = record {
+    ties = λ is_now live.
+        let m = moves.observed is_now in
+        let same : b.held ≡ with_piece (take n buf) a.held = ap (λ (r : Reads). r.held) (takes live) in
+        let p = parts_of before t.came a.held (tied.ties m.0 (was_live live)) in
+        let is : Held → Type 0 = λ (h : Held). IsTied before u.came h in
+        subst is (sym same) (tied_by before u.came _ _ _ (parts_more before t.came u.came _ _ (take n buf) a.held p (ap (λ (x : Traffic). x.came) m.1)));
+  }
 
 -- ---- what the link tells
 
@@ -115,7 +117,7 @@ module _ (told : Type 0) (before : List ℕ) (t : Traffic) where
   gives_moves (Got n) buf a b g tied = record {
     observed = λ now.
         let live : a.ended ≡ false = sym g.ended ∙ now.1.0 in
-        let p = parts_of before t.came a.held (tied now.0 live) in
+        let p = parts_of before t.came a.held (tied.ties now.0 live) in
         let after = parts_given before t.came _ _ (take n buf) a.held b.held p g.waiting g.kept in
         let came : before ++ given_since before t.came b.held.waiting ≡ before ++ given_since before t.came a.held.waiting ++ take n buf
         = ap (λ (l : List ℕ). before ++ l) (given_is before t.came _ _ b.held after) ∙ sym (append_assoc before (given_since before t.came a.held.waiting) (take n buf)) in
@@ -152,7 +154,7 @@ module _ (told now : Type 0) (before : List ℕ) (t u : Traffic) (n : ℕ) (came
       let live : a.ended ≡ false = was_live told now before t u n came moves a b takes counted.0 in
       let vain : b.vain ≡ a.vain = ap (λ (r : Reads). r.vain) (takes counted.0) in
       let at : Traffic → Reads → Type 0 = λ (x : Traffic) (r : Reads). without_responses before r x ≡ without_responses before a t in
-      let first = held_as_told before (take n came) a t (tied m.0 live) in
+      let first = held_as_told before (take n came) a t (tied.ties m.0 live) in
       let by_reads = subst (λ (r : Reads). at (record t { came = t.came ++ take n came }) r) (sym (takes counted.0)) first in
       ((m.0, (live, omega (arith, counted.1, vain))), subst (λ (x : Traffic). at x b) (sym m.1) by_reads)
 

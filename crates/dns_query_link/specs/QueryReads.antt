@@ -49,6 +49,10 @@ pub record IsTied (before came : List ℕ) (h : Held) : Type 0 where
   pub kept : h.kept ≡ behind_frames (came_since before came)
   pub waiting : passed_on (came_since before came) ≡ given_since before came h.waiting ++ h.waiting
 
+-- where the link tells and memory was never wanting, what is held is of what came since
+pub record Ties (told : Type 0) (before : List ℕ) (t : Traffic) (r : Reads) : Type 0 where
+  pub ties : told → r.ended ≡ false → IsTied before t.came r.held
+
 -- that memory was never wanting, and the count of reads stands below its end
 abbrev pub IsCounted : Reads → Type 0
 IsCounted r = (r.ended ≡ false) × (r.vain < 2 ^ 64 - 1)

@@ -3,7 +3,7 @@
 ghost use Rattle.std.specs.Prelude.{◌≡◌, ◌≤◌, false};
 ghost use Rattle.dns_io.specs.Causes.{Observed};
 ghost use Rattle.dns_io.specs.Traffic.{LinkReadBound, LinkReadCause, LinkReadMoves};
-ghost use Rattle.dns_query_link.specs.QueryReads.{IsCounted, IsTied, LeavesNone, no_reads, WasAsked, without_responses};
+ghost use Rattle.dns_query_link.specs.QueryReads.{IsCounted, LeavesNone, no_reads, Ties, WasAsked, without_responses};
 
 use crate::query_reads::QueryReads;
 use dns_io::{Link, LinkRead, LinkWrite};
@@ -22,12 +22,12 @@ pub struct QueryLink<L: Link> {
     reads: QueryReads,
     // Whether a write answered Again since the last wait.
     full: bool,
-    ghost tied: { L.Link.tells inner → reads.ended ≡ false
-        → IsTied (L.Link.traffic start.value).came (L.Link.traffic inner).came reads.held },
+    ghost tied: { Ties (L.Link.tells inner) (L.Link.traffic start.value).came (L.Link.traffic inner) reads },
 }
 
 impl<L: Link> QueryLink<L> {
     /// Passes on the queries that this link reads from now on. The responses that it drops are counted, where something counts them.
+    #[tactic(auto, using(crate::proofs::Ties::tied_first))]
     pub fn new(alloc: Global, inner: L, counts: Option<Arc<QueryCounts>>) -> QueryLink<L>
         ensures inner { result.inner ≡ inner }
         ensures start { result.start.value ≡ inner }
@@ -50,6 +50,7 @@ impl<L: Link> Link for QueryLink<L> {
 
     ghost faults = { λ l. L.faults l.inner };
 
+    #[tactic(auto, using(crate::proofs::Ties::gives_ties, crate::proofs::Ties::taken_ties, crate::proofs::Ties::taken_moves))]
     fn read(&mut self, buf: &mut [u8]) -> LinkRead
         ensures moves { Observed (L.tells self.new.inner × IsCounted self.new.reads) (L.tells self.old.inner × IsCounted self.old.reads)
             (LinkReadMoves result buf.new

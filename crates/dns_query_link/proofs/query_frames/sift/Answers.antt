@@ -1,5 +1,5 @@
 -- Frame by frame.
-use Rattle.std.proofs.Common.{◌≡◌, ℕ, ◌+◌, ◌-◌, ◌^◌, List, min, ap, subst, sym, ◌∙◌}
+use Rattle.std.proofs.Common.{ℕ, ◌+◌, ◌-◌, ◌^◌, List, min, ap, subst, sym, ◌∙◌}
 use Rattle.dns_query_link.specs.QueryFrames.{AreOctets}
 use Rattle.dns_query_link.proofs.Sifted.{fits, rest_octets, sifted_all, sifted_first, sifted_more}
 use Rattle.dns_query_link.proofs.query_frames.sift.Goals as goal
