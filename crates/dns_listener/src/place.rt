@@ -5,7 +5,7 @@ ghost use Rattle.std.specs.Arc.{arc_value};
 
 use crate::listener::Listener;
 use dns_book::{Book, BookSeat};
-use dns_outside::{AsyncAccept, AsyncDgramSock, HostClock, MioLink, Spawner, ThreadSpawner};
+use dns_outside::{AsyncAccept, AsyncDgramSock, HostClock, Link, MioLink, Spawner, ThreadSpawner};
 use dns_query_link::QueryLink;
 use dns_service::SharedService;
 use dns_workers::{AcceptContext, ConnectionWork, HostEnd, ServeContext, Silent, WorkersHost};
@@ -109,6 +109,19 @@ where
     }
 }
 
+/// Gives each connection over such a link, by such a clock and service, a thread of its own.
+fn spawner_over<
+    L: Link + Send + Drop + 'static,
+    C: dns_outside::Clock + Send + Drop + 'static,
+    W: SharedService + Send + Sync + 'static,
+>(alloc: Global) -> ThreadSpawner<ConnectionWork<L, C, Silent, W>>
+where
+    W::Future: Send,
+    W::Stream: Send,
+{
+    ThreadSpawner::new(alloc)
+}
+
 /// Serves at a listener until the book is shut down, and gives the listener back, whose sockets stay open.
 pub(crate) fn serve_at<
     R: Clock + Threads + Wait + Copy + Send + Sync + 'static,
@@ -129,7 +142,7 @@ where
         accept,
         workers,
     } = listener;
-    let spawner: Connections<R, W> = ThreadSpawner::new(alloc);
+    let spawner: Connections<R, W> = spawner_over(alloc);
     let mut host = WorkersHost {
         accept,
         workers,

@@ -1,1 +1,3 @@
 mod Sifted
+mod Ties
+pub mod Sends

@@ -1,2 +1,3 @@
 pub use Rattle.dns_framing.specs.Frames
 pub mod QueryFrames
+pub mod QueryReads

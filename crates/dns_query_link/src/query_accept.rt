@@ -3,7 +3,7 @@
 ghost use Rattle.std.specs.Prelude.{◌≡◌};
 
 use crate::query_link::QueryLink;
-use dns_io::{AcceptAnswer, AsyncAccept};
+use dns_io::{AcceptAnswer, AsyncAccept, Link};
 use dns_query_sock::QueryCounts;
 use std::alloc::Global;
 use std::sync::{Arc, Wait};
@@ -29,7 +29,7 @@ impl<A> QueryAccept<A> {
     }
 
     /// A link over one that came.
-    fn over<L>(&self, link: L) -> QueryLink<L> {
+    fn over<L: Link>(&self, link: L) -> QueryLink<L> {
         self.counts.count_connection();
         QueryLink::new(self.alloc, link, Arc::try_clone(&self.counts).ok())
     }

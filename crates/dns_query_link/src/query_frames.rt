@@ -1,10 +1,11 @@
 //! The frames of a stream without responses.
 
-ghost use Rattle.std.specs.Prelude.{◌≡◌, ◌≤◌, ◌++◌, ◌==◌, [], drop, length, min, take, IfOk, MatchOption, OnOk};
-ghost use Rattle.dns_query_link.specs.Frames.{behind_frames};
-ghost use Rattle.dns_query_link.specs.QueryFrames.{HasNone, IsSifted, passed_on, with_piece};
+ghost use Rattle.std.specs.Prelude.{◌≡◌, ◌≤◌, ◌<◌, ◌-◌, ◌^◌, ◌++◌, ◌==◌, [], length, min, take, if◌then◌else◌, IfOk, OnOk, OnErr};
+ghost use Rattle.dns_query_link.specs.Frames.{behind_frames, framed};
+ghost use Rattle.dns_query_sock.specs.Queries.{is_response};
+ghost use Rattle.dns_query_link.specs.QueryFrames.{AreOctets, is_query, nothing_held, passed_on, responses, with_piece};
 
-use dns_framing::first_of;
+use dns_framing::Framer;
 use dns_name::OutOfMemory;
 use dns_query_sock::is_response;
 use std::alloc::Global;
@@ -13,7 +14,7 @@ use std::marker::Model;
 /// What came of a stream: octets that are in no whole frame yet, and octets of queries that wait to be read.
 #[derive(Drop)]
 pub struct QueryFrames {
-    kept: Vec<u8>,
+    framer: Framer,
     // Those before `at` were read.
     waiting: Vec<u8>,
     at: usize,
@@ -21,61 +22,55 @@ pub struct QueryFrames {
 
 impl Model for QueryFrames {
     ghost use Rattle.std.specs.Prelude.{drop, length, ◌≤◌};
-    ghost use Rattle.dns_query_link.specs.QueryFrames.{Held};
+    ghost use Rattle.dns_query_link.specs.QueryFrames.{AreOctets, Held};
 
     ghost Value = { Held };
 
-    ghost view = { λ f. record { kept = f.kept.items; waiting = drop f.at f.waiting.items } };
+    ghost view = { λ f. record { kept = f.framer; waiting = drop f.at f.waiting.items } };
 
-    ghost invariant = { λ f. f.at ≤ length f.waiting.items };
+    ghost invariant = { λ f. (f.at ≤ length f.waiting.items) × AreOctets f.framer };
 }
 
-/// Appends the first whole frame of octets to those that wait, if it is no response. How many octets it takes with its length, and whether
-/// it was appended.
-fn sift_first(
-    alloc: Global,
-    octets: &[u8],
-    waiting: &mut Vec<u8>,
-) -> Result<Option<(usize, bool)>, OutOfMemory>
-    ensures { IfOk result (λ o. MatchOption o
-        (HasNone octets.now waiting.old.items waiting.new.items)
-        (λ p. IsSifted octets.now waiting.old.items waiting.new.items p.0)) }
+/// Appends a message behind its length to the octets that wait, if it is a query. How many responses are dropped with it: one or none.
+fn pass_on(message: &[u8], waiting: &mut Vec<u8>) -> Result<u64, OutOfMemory>
+    requires { length message.now < 65536 }
+    ensures dropped { IfOk result (λ n. n ≡ (if is_response message.now then 1 else 0)) }
+    ensures given { OnOk result
+        (waiting.new.items ≡ waiting.old.items ++ (if is_query message.now then framed message.now else [])) }
+    ensures grows { length waiting.old.items ≤ length waiting.new.items }
 {
-    let Some((frame, size)) = first_of(alloc, octets)? else {
-        return Ok(None);
-    };
-    if is_response(frame.as_slice()) {
-        return Ok(Some((size, false)));
+    if is_response(message) {
+        return Ok(1);
     }
-    waiting.extend_from_slice(&octets[..size])?;
-    Ok(Some((size, true)))
+    let size = message.len();
+    waiting.extend_from_slice(&[(size / 256) as u8, (size % 256) as u8])?;
+    waiting.extend_from_slice(message)?;
+    Ok(0)
 }
 
-/// Appends the whole frames of octets to those that wait, but for responses. How many octets they all take with their lengths, and how
-/// many responses were dropped.
-fn sift(alloc: Global, octets: &[u8], waiting: &mut Vec<u8>) -> Result<(usize, u64), OutOfMemory>
-    ensures within { IfOk result (λ r. r.0 ≤ length octets.now) }
-    ensures left { IfOk result (λ r. drop r.0 octets.now ≡ behind_frames octets.now) }
-    ensures given { OnOk result (waiting.new.items ≡ waiting.old.items ++ passed_on octets.now) }
+/// Takes each whole frame, and appends those of queries to the octets that wait. How many responses were dropped.
+fn sift(alloc: Global, framer: &mut Framer, waiting: &mut Vec<u8>) -> Result<u64, OutOfMemory>
+    requires { AreOctets framer.old }
+    ensures left { OnOk result (framer.new ≡ behind_frames framer.old) }
+    ensures given { OnOk result (waiting.new.items ≡ waiting.old.items ++ passed_on framer.old) }
+    ensures dropped { IfOk result (λ n. n ≡ min (responses framer.old) (2 ^ 64 - 1)) }
+    ensures octets { AreOctets framer.new }
+    ensures grows { length waiting.old.items ≤ length waiting.new.items }
 {
-    let mut at = 0;
     let mut dropped: u64 = 0;
-    'each: while let Some((size, appended)) = sift_first(alloc, &octets[at..], waiting)? {
-        at += size;
-        if !appended {
-            dropped = dropped.saturating_add(1);
-        }
+    'each: while let Some(message) = framer.next(alloc)? {
+        dropped = dropped.saturating_add(pass_on(message.as_slice(), waiting)?);
     }
-    Ok((at, dropped))
+    Ok(dropped)
 }
 
 impl QueryFrames {
     /// Nothing came yet. No memory is taken before the first piece.
     pub fn new(alloc: Global) -> QueryFrames
-        ensures { result ≡ record { kept = []; waiting = [] } }
+        ensures { result ≡ nothing_held }
     {
         QueryFrames {
-            kept: Vec::new(alloc),
+            framer: Framer::new(alloc),
             waiting: Vec::new(alloc),
             at: 0,
         }
@@ -88,29 +83,39 @@ impl QueryFrames {
         self.waiting[self.at..].is_empty()
     }
 
-    /// Uses the room again of what was read, where nothing waits.
-    fn reuse(&mut self)
+    /// Lets go of the octets that were read, once they are more than half.
+    fn let_go(&mut self, alloc: Global) -> Result<(), OutOfMemory>
         ensures { self.new ≡ self.old }
     {
-        if self.at == self.waiting.len() {
+        if self.at > self.waiting.len() / 2 {
+            self.waiting = Vec::from_slice(alloc, &self.waiting[self.at..])?;
             self.at = 0;
-            self.waiting.clear();
         }
+        Ok(())
+    }
+
+    /// Takes a piece of the stream, and gives how many responses were dropped, as long as there is memory.
+    fn sift(&mut self, alloc: Global, piece: &[u8]) -> Result<u64, OutOfMemory>
+        ensures held { OnOk result (self.new ≡ with_piece piece.now self.old) }
+        ensures dropped { IfOk result (λ n. n ≡ min (responses (self.old.kept ++ piece.now)) (2 ^ 64 - 1)) }
+    {
+        self.let_go(alloc)?;
+        self.framer.feed(alloc, piece)?;
+        sift(alloc, &mut self.framer, &mut self.waiting)
     }
 
     /// Takes a piece of the stream: the queries that it makes whole wait to be read behind the others. How many responses were
-    /// dropped is given. After want of memory it isn't to be used.
+    /// dropped is given. Without memory all is let go, also what waits.
     pub fn feed(&mut self, alloc: Global, piece: &[u8]) -> Result<u64, OutOfMemory>
-        ensures { OnOk result (self.new ≡ with_piece piece.now self.old) }
+        ensures held { OnOk result (self.new ≡ with_piece piece.now self.old) }
+        ensures dropped { IfOk result (λ n. n ≡ min (responses (self.old.kept ++ piece.now)) (2 ^ 64 - 1)) }
+        ensures err { OnErr result (self.new ≡ nothing_held) }
     {
-        self.reuse();
-        self.kept.extend_from_slice(piece)?;
-        let Ok((end, dropped)) = sift(alloc, self.kept.as_slice(), &mut self.waiting) else {
-            self.at = 0;
-            return Err(OutOfMemory);
-        };
-        self.kept = Vec::from_slice(alloc, &self.kept[end..])?;
-        Ok(dropped)
+        let dropped = self.sift(alloc, piece);
+        if dropped.is_err() {
+            *self = QueryFrames::new(alloc);
+        }
+        dropped
     }
 
     /// Moves octets that wait to the front of a buffer. How many there are is given.

@@ -1,14 +1,10 @@
-use Rattle.std.proofs.Common.{◌≡◌, ◌≤◌, ◌++◌, ◌-◌, length, drop}
-use Rattle.dns_framing.specs.Frames.{behind_frames}
-use Rattle.dns_query_link.specs.QueryFrames.{passed_on}
+use Rattle.std.proofs.Common.{length}
+use Rattle.dns_framing.specs.Frames.{frames}
+use Rattle.dns_query_link.proofs.Sifted.{IsSifted}
 use Rattle.dns_query_link.proofs.query_frames.sift.Given as goal
 
 abbrev pub invariant-each : goal.invariant-each
-invariant-each l = record {
-  within : l.at ≤ length l.octets;
-  left : behind_frames (drop l.at l.octets) ≡ behind_frames l.octets;
-  given : l.waiting.items ++ passed_on (drop l.at l.octets) ≡ l.initial.waiting.items ++ passed_on l.octets;
-}
+invariant-each l = IsSifted l.initial.framer l.initial.waiting.items l.framer l.waiting.items l.dropped
 
 abbrev pub decreases-each : goal.decreases-each
-decreases-each l = length l.octets - l.at
+decreases-each l = length (frames l.framer)
