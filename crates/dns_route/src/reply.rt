@@ -110,10 +110,14 @@ impl ReplyMessage {
     pub fn into_builder(self, alloc: Global) -> Result<AdditionalBuilder, ReplyError>
         ensures { Composes (reply_message self) result }
     {
-        let mut reply = self;
-        match reply.built.take() {
+        let ReplyMessage {
+            message,
+            opt,
+            built,
+        } = self;
+        match built {
             Some(built) => Ok(built),
-            None => reply.read_again(alloc),
+            None => ReplyMessage::of(message, opt).read_again(alloc),
         }
     }
 
