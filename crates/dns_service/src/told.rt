@@ -5,7 +5,7 @@ ghost use Rattle.dns_service.specs.Told.{feedback_of};
 
 use crate::service::ServiceFeedback;
 
-/// A feedback or none in one enum, which takes half of what an option of a feedback takes: results are moved often.
+/// A feedback or none in one enum, which takes half of what an option of a feedback takes. Results are moved often.
 #[derive(Clone, Copy)]
 pub(crate) enum Told {
     /// Nothing.
@@ -21,17 +21,7 @@ pub(crate) enum Told {
 }
 
 impl Told {
-    /// A feedback, or none.
-    pub(crate) fn of(feedback: Option<ServiceFeedback>) -> Told
-        ensures { feedback_of result ≡ feedback }
-    {
-        match feedback {
-            None => Told::Nothing,
-            Some(feedback) => Told::some(feedback),
-        }
-    }
-
-    /// A feedback.
+    /// This feedback.
     pub(crate) fn some(feedback: ServiceFeedback) -> Told
         ensures { feedback_of result ≡ Some feedback }
     {
