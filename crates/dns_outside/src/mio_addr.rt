@@ -1,5 +1,7 @@
 //! Addresses as sockets have them.
 
+ghost use Rattle.std.specs.Prelude.{◌≡◌};
+ghost use Rattle.std.specs.declared.net.ip_addr.IpAddr.TheVariants.{V6 as StdV6};
 ghost use Rattle.dns_outside.specs.StdAddresses.{IsMadeOf, AddrIsMadeOf, AddrIsCanonical, IsCanonical, IsSeenAs, AddrIsSeenAs};
 
 use dns_name::{IpAddr, SocketAddr};
@@ -39,17 +41,17 @@ pub(crate) fn within_v6(addr: SocketAddr) -> net::SocketAddr
     net::SocketAddr::new(ip_within_v6(addr.ip), addr.port)
 }
 
-/// An address of std without its port.
-fn ip_from_std(ip: net::IpAddr) -> IpAddr
-    ensures { IsCanonical ip result }
+/// An address of IPv6 as std has it, with a port.
+#[inline(never)]
+fn from_v6(ip: net::Ipv6Addr, port: u16) -> SocketAddr
+    ensures ip { IsCanonical (StdV6 ip) result.ip }
+    ensures port { result.port ≡ port }
 {
-    match ip {
-        net::IpAddr::V4(ip) => IpAddr::V4(ip.octets()),
-        net::IpAddr::V6(ip) => match ip.to_ipv4_mapped() {
-            Some(within) => IpAddr::V4(within.octets()),
-            None => IpAddr::V6(ip.octets()),
-        },
-    }
+    let ip = match ip.to_ipv4_mapped() {
+        Some(within) => IpAddr::V4(within.octets()),
+        None => IpAddr::V6(ip.octets()),
+    };
+    SocketAddr { ip, port }
 }
 
 /// An address of std. An IPv4 address within IPv6, as a socket of both gives it, is the IPv4 address (RFC 4291, section
@@ -58,8 +60,12 @@ fn ip_from_std(ip: net::IpAddr) -> IpAddr
 pub(crate) fn from_std(addr: net::SocketAddr) -> SocketAddr
     ensures { AddrIsCanonical addr result }
 {
-    SocketAddr {
-        ip: ip_from_std(addr.ip()),
-        port: addr.port(),
+    let port = addr.port();
+    match addr.ip() {
+        net::IpAddr::V4(ip) => SocketAddr {
+            ip: IpAddr::V4(ip.octets()),
+            port,
+        },
+        net::IpAddr::V6(ip) => from_v6(ip, port),
     }
 }

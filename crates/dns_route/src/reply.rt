@@ -106,6 +106,21 @@ impl ReplyMessage {
         composed(alloc, copied, self.opt.as_ref())
     }
 
+    /// The reply, as `additional_builder_stream_target` gives it. What was built is handed on and not copied.
+    pub fn into_builder(self, alloc: Global) -> Result<AdditionalBuilder, ReplyError>
+        ensures { Composes (reply_message self) result }
+    {
+        let ReplyMessage {
+            message,
+            opt,
+            built,
+        } = self;
+        match built {
+            Some(built) => Ok(built),
+            None => ReplyMessage::of(message, opt).read_again(alloc),
+        }
+    }
+
     /// The reply of a message and the OPT record that takes the place of its own. The message is not copied.
     pub fn of(message: Message, opt: Option<OptRecord>) -> ReplyMessage
         ensures { result ≡ record { octets = message; opt = opt } }

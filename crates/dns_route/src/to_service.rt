@@ -8,7 +8,7 @@ ghost use Rattle.dns_service.specs.Req.{hint_at_entry};
 ghost use Rattle.dns_route.specs.ReplyMessage.{reply_message};
 ghost use Rattle.dns_route.specs.Turns.{built_item, turn_item, turned_over, turns_answer};
 
-use crate::reply::{ComposeReply, ReplyMessage};
+use crate::reply::ReplyMessage;
 use crate::single_service::SingleService;
 use dns_service::{
     CallResult, Once, OutOfMemory, Polled, ReplyError, ReplyFuture, ReplyStream, Request, Service,
@@ -112,16 +112,16 @@ pub fn turn_item(
     ensures { IfOk result (λ i. i ≡ turn_item turned) }
 {
     match turned {
-        Ok(reply) => built_item(alloc, &reply),
+        Ok(reply) => built_item(alloc, reply),
         Err(_) => Ok(Err(ServiceError::InternalError)),
     }
 }
 
 /// The item that a reply becomes.
-fn built_item(alloc: Global, reply: &ReplyMessage) -> Result<ServiceResult, OutOfMemory>
-    ensures { IfOk result (λ i. i ≡ built_item (reply_message reply.now)) }
+fn built_item(alloc: Global, reply: ReplyMessage) -> Result<ServiceResult, OutOfMemory>
+    ensures { IfOk result (λ i. i ≡ built_item (reply_message reply)) }
 {
-    match reply.additional_builder_stream_target(alloc) {
+    match reply.into_builder(alloc) {
         Ok(built) => Ok(Ok(CallResult::new(built))),
         Err(ReplyError::Service(_)) => Ok(Err(ServiceError::InternalError)),
         Err(ReplyError::OutOfMemory) => Err(OutOfMemory),

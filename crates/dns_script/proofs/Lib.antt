@@ -3,6 +3,7 @@ mod AnswersBack
 mod AnswersOn
 pub mod Between
 pub mod Called
+mod FirstRules
 mod Kept
 mod LinesBack
 pub mod Names

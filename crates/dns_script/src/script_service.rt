@@ -55,8 +55,25 @@ impl Service<()> for ScriptService {
     }
 }
 
-/// The answers of the first rule that fits a message, and a refusal where there is none.
+/// The answers of the first rule that fits a message, and a refusal where there is none. Where the first rule of all is for all
+/// names, the question isn't read.
+#[tactic(auto, using(crate::proofs::FirstRules::first_for_all))]
 pub(crate) fn answers_for(
+    alloc: Global,
+    rules: &[Rule],
+    message: &Message,
+) -> Result<ScriptAnswers, OutOfMemory>
+    ensures { IfOk result (λ a. a ≡ answers_for rules.now (name_asked message.now)) }
+{
+    match rules.first() {
+        Some(rule) if rule.name.is_none() => rule.answers.try_clone(),
+        _ => answers_asked(alloc, rules, message),
+    }
+}
+
+/// The answers of the first rule that fits the question of a message, and a refusal where there is none.
+#[inline(never)]
+fn answers_asked(
     alloc: Global,
     rules: &[Rule],
     message: &Message,

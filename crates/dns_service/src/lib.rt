@@ -41,6 +41,7 @@ mod polled;
 mod reply_error;
 mod service;
 mod shared_service;
+mod told;
 
 pub use asked::{Asked, AskedCookie, AskedOpt, AskedRecord, read_asked};
 pub use copied::CopiedMessage;

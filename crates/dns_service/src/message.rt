@@ -211,7 +211,38 @@ impl<Meta> Request<Meta> {
         }) }
     {
         let message = Arc::new(alloc, message)?;
-        Ok(Request {
+        Ok(Request::of_shared(
+            client_addr,
+            received_at,
+            received_secs,
+            message,
+            transport_ctx,
+            metadata,
+        ))
+    }
+
+    /// A request of a message that is shared already, with no reserved octets.
+    pub fn of_shared(
+        client_addr: SocketAddr,
+        received_at: u64,
+        received_secs: u64,
+        message: Arc<Message>,
+        transport_ctx: TransportSpecificContext,
+        metadata: Meta,
+    ) -> Self
+    where
+        Meta: Drop,
+        ensures { result ≡ record {
+          octets = arc_value message;
+          client_addr = client_addr;
+          received_at = received_at;
+          received_secs = received_secs;
+          transport = transport_ctx;
+          reserved = 0;
+          metadata = metadata;
+        } }
+    {
+        Request {
             client_addr,
             received_at,
             received_secs,
@@ -219,7 +250,7 @@ impl<Meta> Request<Meta> {
             transport_ctx,
             num_reserved_bytes: 0,
             metadata,
-        })
+        }
     }
 
     /// The moment at which the request was received, in ms.

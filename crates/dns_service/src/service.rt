@@ -13,6 +13,7 @@ ghost use Rattle.dns_service.specs.Lending.{LendsReply};
 ghost use Rattle.dns_service.specs.Errors.{rcode_of, service_error_text};
 
 use crate::message::Request;
+use crate::told::Told;
 use dns_base::AdditionalBuilder;
 use dns_name::{OutOfMemory, Rcode};
 use std::alloc::Global;
@@ -85,17 +86,18 @@ pub enum ServiceFeedback {
 #[derive(Drop)]
 pub struct CallResult {
     response: Option<AdditionalBuilder>,
-    feedback: Option<ServiceFeedback>,
+    told: Told,
 }
 
 impl Model for CallResult {
     ghost use Rattle.dns_service.specs.Given.{Given, IsEither, message_in};
+    ghost use Rattle.dns_service.specs.Told.{feedback_of};
 
     ghost Value = { Given };
 
-    ghost view = { λ c. record { response = message_in c.response; feedback = c.feedback } };
+    ghost view = { λ c. record { response = message_in c.response; feedback = feedback_of c.told } };
 
-    ghost invariant = { λ c. IsEither c.response c.feedback };
+    ghost invariant = { λ c. IsEither c.response (feedback_of c.told) };
 }
 
 impl CallResult {
@@ -105,7 +107,7 @@ impl CallResult {
     {
         CallResult {
             response: Some(response),
-            feedback: None,
+            told: Told::Nothing,
         }
     }
 
@@ -115,7 +117,7 @@ impl CallResult {
     {
         CallResult {
             response: None,
-            feedback: Some(feedback),
+            told: Told::some(feedback),
         }
     }
 
@@ -125,7 +127,7 @@ impl CallResult {
     {
         CallResult {
             response: self.response,
-            feedback: Some(feedback),
+            told: Told::some(feedback),
         }
     }
 
@@ -148,7 +150,7 @@ impl CallResult {
     pub fn feedback(&self) -> Option<ServiceFeedback>
         ensures { result ≡ self.now.feedback }
     {
-        self.feedback
+        self.told.feedback()
     }
 
     /// The reply, whose push limit may be any, and the feedback.
@@ -157,8 +159,8 @@ impl CallResult {
         ensures feedback { result.1 ≡ self.feedback }
         ensures either { IsEither result.0 result.1 }
     {
-        let CallResult { response, feedback } = self;
-        (response, feedback)
+        let CallResult { response, told } = self;
+        (response, told.feedback())
     }
 }
 

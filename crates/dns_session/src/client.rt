@@ -88,7 +88,16 @@ impl<W: SharedService> ClientCore<W> {
         ensures version { IfOk result (λ p. p.0.version ≡ look.now.version) }
     {
         let octets = cut_datagram(alloc, octets)?;
-        let begun = begin_cut(alloc, service, addr, at, secs, octets, &look.dgram)?;
+        let begun = begin_cut(
+            alloc,
+            service,
+            addr,
+            at,
+            secs,
+            octets,
+            &look.dgram,
+            &mut None,
+        )?;
         ClientCore::exchange(alloc, client, look.version, begun)
     }
 

@@ -12,12 +12,13 @@ ghost use Rattle.dns_session.specs.Turns.{exchange_turn};
 
 use crate::kept::{KeptRequest, call, refused};
 use crate::polling::turn_unfinished;
-use crate::requests::{cut_given, datagram_of, datagram_request};
+use crate::requests::{cut_given, datagram_of, shared_in, shared_request};
 use dns_base::{Message, SocketAddr};
 use dns_events::{DgramConfig, Event, EventKind, Output};
 use dns_framing::{ReplyFuture, ReplyStream, Request, SharedService, reply_limit};
 use dns_name::{Octets, OptRcode, OutOfMemory};
 use std::alloc::Global;
+use std::sync::Arc;
 
 /// A vector of one output.
 pub fn one(alloc: Global, output: Output) -> Result<Vec<Output>, OutOfMemory>
@@ -65,8 +66,27 @@ pub fn begin_exchange<W: SharedService>(
     ensures spent { IfOk result (λ p. SpentWith (request_answer W.Future.answer W.Stream.answer)
         (serving (W.answer service.now) (W.hint service.now)) (not (is_some p.0)) p.0) }
 {
+    begin_exchange_in(alloc, service, addr, at, secs, octets, config, &mut None)
+}
+
+/// Begins an exchange as `begin_exchange` does. Its message takes the place of the one that is given, where nothing else has a
+/// share in that; then no memory is taken for it.
+pub fn begin_exchange_in<W: SharedService>(
+    alloc: Global,
+    service: &W,
+    addr: SocketAddr,
+    at: u64,
+    secs: u64,
+    octets: Octets,
+    config: &DgramConfig,
+    spare: &mut Option<Arc<Message>>,
+) -> Result<BegunExchange<W>, OutOfMemory>
+    requires { W.can_call service.now }
+    ensures begun { IfOk result (λ p. BeginsAs (request_answer W.Future.answer W.Stream.answer) (serving (W.answer service.now) (W.hint service.now)) addr at secs config.now (cut_datagram octets) p.0 p.1) }
+    ensures spent { IfOk result (λ p. SpentWith (request_answer W.Future.answer W.Stream.answer) (serving (W.answer service.now) (W.hint service.now)) (not (is_some p.0)) p.0) }
+{
     let octets = cut_given(octets);
-    begin_cut(alloc, service, addr, at, secs, octets, config)
+    begin_cut(alloc, service, addr, at, secs, octets, config, spare)
 }
 
 /// Begins the exchange of what was read of a datagram. Octets that are no message begin none, and have no reply.
@@ -78,6 +98,7 @@ pub fn begin_cut<W: SharedService>(
     secs: u64,
     octets: Vec<u8>,
     config: &DgramConfig,
+    spare: &mut Option<Arc<Message>>,
 ) -> Result<BegunExchange<W>, OutOfMemory>
     requires { W.can_call service.now }
     ensures { IfOk result (λ p. BeginsAs (request_answer W.Future.answer W.Stream.answer)
@@ -86,7 +107,7 @@ pub fn begin_cut<W: SharedService>(
     let Ok(message) = Message::from_octets(octets) else {
         return Ok((None, None));
     };
-    begin_message(alloc, service, addr, at, secs, message, config)
+    begin_message(alloc, service, addr, at, secs, message, config, spare)
 }
 
 /// Begins the exchange of a datagram that is a message. A response (QR set) is refused, and a query is asked of the
@@ -99,6 +120,7 @@ fn begin_message<W: SharedService>(
     secs: u64,
     message: Message,
     config: &DgramConfig,
+    spare: &mut Option<Arc<Message>>,
 ) -> Result<BegunExchange<W>, OutOfMemory>
     requires { W.can_call service.now }
     ensures { IfOk result (λ p. 12 ≤ length message
@@ -108,7 +130,8 @@ fn begin_message<W: SharedService>(
     if message.header().qr {
         return refuse::<W>(alloc, &message, config);
     }
-    let request = datagram_request(alloc, config, addr, at, secs, message)?;
+    let shared = shared_in(alloc, spare, message)?;
+    let request = shared_request(config, addr, at, secs, shared);
     ask(alloc, service, request)
 }
 

@@ -33,6 +33,7 @@ pub struct KeptRequest<F, R> {
 }
 
 /// Asks a service a request.
+#[inline(always)]
 pub fn call<W: SharedService>(
     alloc: Global,
     service: &W,
@@ -65,6 +66,16 @@ fn kept_of<F, R>(future: F, request: Request<()>) -> KeptRequest<F, R>
 }
 
 impl<F, R> KeptRequest<F, R> {
+    /// The message, of a request that is polled no more.
+    pub fn into_message(self) -> Arc<Message>
+    where
+        F: Drop,
+        R: Drop,
+        ensures { result ≡ self.message }
+    {
+        self.message
+    }
+
     /// The polled state and the message.
     pub fn into_parts(self) -> (PolledRequest<F, R>, Arc<Message>)
         ensures polled { result.0 ≡ self.polled }
@@ -119,6 +130,7 @@ fn datagram_in(reply: Option<AdditionalBuilder>) -> Option<Octets>
 }
 
 /// The reply that is sent for an item, where there is one, and whether its request is done.
+#[inline(always)]
 pub fn answered(
     alloc: Global,
     message: &Message,

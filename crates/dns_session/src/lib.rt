@@ -11,7 +11,8 @@
 //! - `ClientCore::piece` and `write` hear octets and a write without an event, and answer without a list.
 //! - `ClientCore::saw` hears what a look shows: new configurations, a shutdown.
 //! - `front_frame`, `first_unfinished`, `next_unfinished`, `idle_left`, `is_closed` say what a loop has to do next.
-//! - `begin_exchange` and `KeptRequest::turn` do for an exchange what a core does, without one.
+//! - `begin_exchange` and `KeptRequest::turn` do for an exchange what a core does, without one. `begin_exchange_in` uses
+//!   the memory of a message again that `KeptRequest::into_message` gave.
 //!
 //! ```text
 //! Event -> ClientCore::step -> outputs, and a core that stands for the next slate
@@ -48,7 +49,7 @@ mod unfinished;
 
 pub use client::ClientCore;
 pub use dns_framing::{ConnectionInvoker, Framer, IdleTimer, PolledRequest};
-pub use exchange::{BegunExchange, begin_exchange};
+pub use exchange::{BegunExchange, begin_exchange, begin_exchange_in};
 pub use kept::{KeptRequest, answered, refused};
 pub use laws::{frames_go_on, pieces_may_be_cut, spent_clients_are_sent_nothing};
 pub use requests::{cut_given, datagram_of, datagram_request};

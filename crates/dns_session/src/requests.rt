@@ -1,6 +1,7 @@
 //! Requests of messages, and messages of replies.
 
-ghost use Rattle.std.specs.Prelude.{◌≡◌, IfOk};
+ghost use Rattle.std.specs.Arc.{arc_value};
+ghost use Rattle.std.specs.Prelude.{◌≡◌, IfOk, IfSome, IsNone};
 ghost use Rattle.dns_base.specs.Wire.{wire};
 ghost use Rattle.dns_session.specs.Datagrams.{cut_datagram};
 ghost use Rattle.dns_session.specs.Requests.{request_of_datagram, request_of_frame};
@@ -10,6 +11,7 @@ use dns_events::DgramConfig;
 use dns_framing::{NonUdpTransportContext, Request, TransportSpecificContext, UdpTransportContext};
 use dns_name::{Octets, OutOfMemory};
 use std::alloc::Global;
+use std::sync::Arc;
 
 /// How many octets of a datagram are read.
 const MOST_READ: usize = 1024;
@@ -43,10 +45,63 @@ pub fn datagram_request(
 ) -> Result<Request<()>, OutOfMemory>
     ensures { IfOk result (λ r. r ≡ request_of_datagram config.now addr at secs message) }
 {
+    let message = shared_anew(alloc, message)?;
+    Ok(shared_request(config, addr, at, secs, message))
+}
+
+/// The request of a datagram whose message is shared already.
+pub fn shared_request(
+    config: &DgramConfig,
+    addr: SocketAddr,
+    at: u64,
+    secs: u64,
+    message: Arc<Message>,
+) -> Request<()>
+    ensures { result ≡ request_of_datagram config.now addr at secs (arc_value message) }
+{
     let hint = UdpTransportContext::new(config.max_response_size());
     let transport = TransportSpecificContext::Udp(hint);
-    let request = Request::new(alloc, addr, at, secs, message, transport, ())?;
-    Ok(request)
+    Request::of_shared(addr, at, secs, message, transport, ())
+}
+
+/// A message takes the place of one in which nothing else has a share. Otherwise it is given back.
+fn put_in(shared: &mut Arc<Message>, message: Message) -> Option<Message>
+    ensures put { IsNone result → arc_value shared.new ≡ message }
+    ensures back { IfSome result (λ m. m ≡ message) }
+{
+    match Arc::get_mut(shared) {
+        Some(place) => {
+            *place = message;
+            None
+        }
+        None => Some(message),
+    }
+}
+
+/// A message that is shared from now on, in the place of the one that is given where nothing else has a share in that.
+#[inline(always)]
+pub fn shared_in(
+    alloc: Global,
+    spare: &mut Option<Arc<Message>>,
+    message: Message,
+) -> Result<Arc<Message>, OutOfMemory>
+    ensures { IfOk result (λ m. arc_value m ≡ message) }
+{
+    let Some(mut shared) = spare.take() else {
+        return shared_anew(alloc, message);
+    };
+    match put_in(&mut shared, message) {
+        None => Ok(shared),
+        Some(message) => shared_anew(alloc, message),
+    }
+}
+
+/// A message that is shared from now on, in memory of its own.
+#[inline(never)]
+fn shared_anew(alloc: Global, message: Message) -> Result<Arc<Message>, OutOfMemory>
+    ensures { IfOk result (λ m. arc_value m ≡ message) }
+{
+    Ok(Arc::new(alloc, message)?)
 }
 
 /// The request of a frame of a connection that may be idle for so long.

@@ -2,7 +2,7 @@ use Rattle.dns_session.specs.Serving.{serving}
 use Rattle.std.proofs.lemmas.Result.{IfOk-weaker}
 use Rattle.dns_framing.specs.PolledRequest.{request_answer}
 use Rattle.dns_session.proofs.Stepped.{exchange_spent}
-use Rattle.dns_session.proofs.exchange.begin_exchange.Goals as goal
+use Rattle.dns_session.proofs.exchange.begin_exchange_in.Goals as goal
 
 pub returns-clause-begun : goal.returns-clause-begun
 returns-clause-begun g c = IfOk-weaker c.begin_cut.result _ _ (λ p f. rw c.cut_given-octets.ensures at f) c.begin_cut.ensures
