@@ -44,7 +44,7 @@ server_by p m = sized p.limit (own_opt p.opt (and_cookie p.cookie m))
 abbrev pub behind : {R : Type 0} → (R → Msg → Msg) → ServerRule R → Msg → Msg
 behind rewriting p m = server_by p.post (rewriting p.inner m)
 
--- the rule for the replies to a request of at most so many octets, if that is limited, by the cookie that they carry, if any
+-- the rule for the replies to a request of at most so many octets, if that is limited, by the cookie that they carry
 abbrev pub post_of : Option Cookie → OwnOpt → Option ℕ → ServerPost
 post_of cookie opt n = record { cookie = option_map (λ c. cookie_rule c n) cookie; opt = opt; limit = n }
 

@@ -8,19 +8,19 @@ use Rattle.dns_io.specs.Causes.{Observed}
 use Rattle.dns_io.specs.Traffic.{Traffic, LinkReadMoves}
 use Rattle.dns_io.specs.declared.link.LinkRead.{LinkRead}
 use Rattle.dns_io.specs.declared.link.LinkRead.TheVariants.{Got, Again, End, Failed}
-use Rattle.dns_query_link.specs.QueryFrames.{Held, nothing_held, passed_on, with_piece}
+use Rattle.dns_query_link.specs.QueryFrames.{Buffered, nothing_held, passed_on, with_piece}
 use Rattle.dns_query_link.specs.QueryReads.{Reads, no_reads, Takes, Gives, came_since, given_since, IsTied, Ties, IsCounted, without_responses}
 use Rattle.dns_query_link.proofs.Sifted.{none_passed, passed_later}
 
 -- ---- the octets that came, by parts
 
 -- octets came since; of the queries among them some octets were given, and the others wait
-record Parts (before came since given : List ℕ) (h : Held) : Type 0 where
+record Parts (before came since given : List ℕ) (h : Buffered) : Type 0 where
   pub came_is : came ≡ before ++ since
   pub kept : h.kept ≡ behind_frames since
   pub passed : passed_on since ≡ given ++ h.waiting
 
-module _ (before came since given : List ℕ) (h : Held) (p : Parts before came since given h) where
+module _ (before came since given : List ℕ) (h : Buffered) (p : Parts before came since given h) where
   since_is : came_since before came ≡ since
   since_is = ap (drop (length before)) p.came_is ∙ drop_at before since (length before) refl
 
@@ -37,11 +37,11 @@ module _ (before came since given : List ℕ) (h : Held) (p : Parts before came 
     waiting = ap passed_on since_is ∙ (p.passed ∙ ap (λ (l : List ℕ). l ++ h.waiting) (sym given_is));
   }
 
-parts_of : (before came : List ℕ) (h : Held) → IsTied before came h → Parts before came (came_since before came) (given_since before came h.waiting) h
+parts_of : (before came : List ℕ) (h : Buffered) → IsTied before came h → Parts before came (came_since before came) (given_since before came h.waiting) h
 parts_of before came h t = record { came_is = t.since; kept = t.kept; passed = t.waiting }
 
 -- a piece more came
-parts_more : (before came came' since given piece : List ℕ) (h : Held) → Parts before came since given h → came' ≡ came ++ piece → Parts before came' (since ++ piece) given (with_piece piece h)
+parts_more : (before came came' since given piece : List ℕ) (h : Buffered) → Parts before came since given h → came' ≡ came ++ piece → Parts before came' (since ++ piece) given (with_piece piece h)
 parts_more before came came' since given piece h p more =
     let on : h.kept ++ piece ≡ behind_frames since ++ piece = ap (λ (l : List ℕ). l ++ piece) p.kept in
     let later : passed_on (h.kept ++ piece) ≡ passed_on (behind_frames since ++ piece) = ap passed_on on in
@@ -53,7 +53,7 @@ parts_more before came came' since given piece h p more =
     }
 
 -- some octets that waited were given
-parts_given : (before came since given some : List ℕ) (h h' : Held) → Parts before came since given h → h.waiting ≡ some ++ h'.waiting → h'.kept ≡ h.kept → Parts before came since (given ++ some) h'
+parts_given : (before came since given some : List ℕ) (h h' : Buffered) → Parts before came since given h → h.waiting ≡ some ++ h'.waiting → h'.kept ≡ h.kept → Parts before came since (given ++ some) h'
 parts_given before came since given some h h' p w k = record {
   came_is = p.came_is;
   kept = k ∙ p.kept;
@@ -62,12 +62,12 @@ parts_given before came since given some h h' p w k = record {
 
 -- ---- what is held stays tied
 
-tied_nothing : (came : List ℕ) (h : Held) → h ≡ nothing_held → IsTied came came h
+tied_nothing : (came : List ℕ) (h : Buffered) → h ≡ nothing_held → IsTied came came h
 tied_nothing came h none =
     let left : [] ≡ behind_frames [] = sym (rest_none [] refl) in
     let passed : passed_on [] ≡ [] = none_passed [] (frames_none [] refl) in
     let p : Parts came came [] [] nothing_held = record { came_is = sym (append-nil came); kept = left; passed = passed } in
-    let is : Held → Type 0 = λ (x : Held). IsTied came came x in subst is (sym none) (tied_by came came [] [] nothing_held p)
+    let is : Buffered → Type 0 = λ (x : Buffered). IsTied came came x in subst is (sym none) (tied_by came came [] [] nothing_held p)
 
 pub tied_first : (told : Type 0) (t u : Traffic) (r : Reads) → u ≡ t → r ≡ no_reads → Ties told t.came u r
 tied_first told t u r same none =
@@ -84,7 +84,7 @@ module _ (told : Type 0) (before : List ℕ) (t : Traffic) where
   gives_ties Again buf a b g tied = record {
     ties = λ now live.
         let same : b.held ≡ a.held = ap (λ (r : Reads). r.held) g.2 in
-        let is : Held → Type 0 = λ (h : Held). IsTied before t.came h in
+        let is : Buffered → Type 0 = λ (h : Buffered). IsTied before t.came h in
         subst is (sym same) (tied.ties now g.0);
   }
   gives_ties End buf a b g tied = record { ties = λ now live. absurd (false≢true (sym live ∙ (ap (λ (r : Reads). r.ended) g.1 ∙ g.0))) }
@@ -101,7 +101,7 @@ module _ (told now : Type 0) (before : List ℕ) (t u : Traffic) (n : ℕ) (buf 
         let m = moves.observed is_now in
         let same : b.held ≡ with_piece (take n buf) a.held = ap (λ (r : Reads). r.held) (takes live) in
         let p = parts_of before t.came a.held (tied.ties m.0 (was_live live)) in
-        let is : Held → Type 0 = λ (h : Held). IsTied before u.came h in
+        let is : Buffered → Type 0 = λ (h : Buffered). IsTied before u.came h in
         subst is (sym same) (tied_by before u.came _ _ _ (parts_more before t.came u.came _ _ (take n buf) a.held p (ap (λ (x : Traffic). x.came) m.1)));
   }
 

@@ -17,15 +17,15 @@ abbrev pub responses : List ℕ → ℕ
 responses o = count_by is_response (frames o)
 
 -- octets that are in no whole frame yet, and octets that wait to be read
-pub record Held : Type 0 where
+pub record Buffered : Type 0 where
   pub kept : List ℕ
   pub waiting : List ℕ
 
-abbrev pub nothing_held : Held
+abbrev pub nothing_held : Buffered
 nothing_held = record { kept = []; waiting = [] }
 
 -- a piece more of the stream
-abbrev pub with_piece : List ℕ → Held → Held
+abbrev pub with_piece : List ℕ → Buffered → Buffered
 with_piece piece h = record { kept = behind_frames (h.kept ++ piece); waiting = h.waiting ++ passed_on (h.kept ++ piece) }
 
 abbrev pub AreOctets : List ℕ → Type 0

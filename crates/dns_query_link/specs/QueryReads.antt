@@ -4,11 +4,11 @@ use Rattle.dns_framing.specs.Frames.{behind_frames}
 use Rattle.dns_io.specs.Traffic.{Traffic}
 use Rattle.dns_io.specs.declared.link.LinkRead.{LinkRead}
 use Rattle.dns_io.specs.declared.link.LinkRead.TheVariants.{Got, Again, End, Failed}
-use Rattle.dns_query_link.specs.QueryFrames.{Held, nothing_held, passed_on, with_piece}
+use Rattle.dns_query_link.specs.QueryFrames.{Buffered, nothing_held, passed_on, with_piece}
 
 -- what is held of the octets that came, how many reads gave nothing of what came, and whether memory was wanting
 pub record Reads : Type 0 where
-  pub held : Held
+  pub held : Buffered
   pub vain : ℕ
   pub ended : Bool
 
@@ -44,7 +44,7 @@ given_since before came waiting =
     let passed = passed_on (came_since before came) in take (length passed - length waiting) passed
 
 -- what is held is of what came since: what is in no whole frame is kept, and the last octets of the queries wait
-pub record IsTied (before came : List ℕ) (h : Held) : Type 0 where
+pub record IsTied (before came : List ℕ) (h : Buffered) : Type 0 where
   pub since : came ≡ before ++ came_since before came
   pub kept : h.kept ≡ behind_frames (came_since before came)
   pub waiting : passed_on (came_since before came) ≡ given_since before came h.waiting ++ h.waiting

@@ -22,9 +22,9 @@ pub struct QueryFrames {
 
 impl Model for QueryFrames {
     ghost use Rattle.std.specs.Prelude.{drop, length, ◌≤◌};
-    ghost use Rattle.dns_query_link.specs.QueryFrames.{AreOctets, Held};
+    ghost use Rattle.dns_query_link.specs.QueryFrames.{AreOctets, Buffered};
 
-    ghost Value = { Held };
+    ghost Value = { Buffered };
 
     ghost view = { λ f. record { kept = f.framer; waiting = drop f.at f.waiting.items } };
 

@@ -82,8 +82,10 @@ pub fn begin_exchange_in<W: SharedService>(
     spare: &mut Option<Arc<Message>>,
 ) -> Result<BegunExchange<W>, OutOfMemory>
     requires { W.can_call service.now }
-    ensures begun { IfOk result (λ p. BeginsAs (request_answer W.Future.answer W.Stream.answer) (serving (W.answer service.now) (W.hint service.now)) addr at secs config.now (cut_datagram octets) p.0 p.1) }
-    ensures spent { IfOk result (λ p. SpentWith (request_answer W.Future.answer W.Stream.answer) (serving (W.answer service.now) (W.hint service.now)) (not (is_some p.0)) p.0) }
+    ensures begun { IfOk result (λ p. BeginsAs (request_answer W.Future.answer W.Stream.answer)
+        (serving (W.answer service.now) (W.hint service.now)) addr at secs config.now (cut_datagram octets) p.0 p.1) }
+    ensures spent { IfOk result (λ p. SpentWith (request_answer W.Future.answer W.Stream.answer)
+        (serving (W.answer service.now) (W.hint service.now)) (not (is_some p.0)) p.0) }
 {
     let octets = cut_given(octets);
     begin_cut(alloc, service, addr, at, secs, octets, config, spare)

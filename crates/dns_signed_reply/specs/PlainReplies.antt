@@ -64,7 +64,8 @@ gives t (Some m) = is_placed t m || (follows t && is_placed 5 m)
 
 -- the NSECs for those of some names that are in the zone
 abbrev pub nsecs_inside : SignedState → ℕ → List (List (List ℕ)) → List NsecState
-nsecs_inside s t names = flat_map (nearest s.nsecs) (flat_map (denied s.zone t) (filter (λ (name : List (List ℕ)). ends_name name s.zone.apex) names))
+nsecs_inside s t names = flat_map (nearest s.nsecs)
+    (flat_map (denied s.zone t) (filter (λ (name : List (List ℕ)). ends_name name s.zone.apex) names))
 
 -- ---- room
 

@@ -24,7 +24,8 @@ SigningAddsOnly = (s : SignedState) (room : ℕ) (o : List ℕ) (q : Question) �
 
 -- without DO it is that reply (RFC 4035, section 3.1)
 abbrev pub NothingWithoutDo : Type 0
-NothingWithoutDo = (s : SignedState) (room : ℕ) (o : List ℕ) (q : Question) → asks_do o ≡ false → secure_reply s room o q ≡ name_server_reply s.zone q
+NothingWithoutDo = (s : SignedState) (room : ℕ) (o : List ℕ) (q : Question) → asks_do o ≡ false
+    → secure_reply s room o q ≡ name_server_reply s.zone q
 
 -- the RRSIGs of a record's RRset are among records, where one of some records says which; unless these have them
 pub record HasSignatures (z : ZoneState) (unsigned signed : List Record) (r : Record) : Type 0 where
@@ -37,21 +38,25 @@ pub record HasSignatures (z : ZoneState) (unsigned signed : List Record) (r : Re
 -- (section 3.1.1).
 pub record HasAll (s : SignedState) (q : Question) (plain signed : ZoneReply) : Type 0 where
   pub answers : (r : Record) → Contains plain.answers r → HasSignatures s.zone plain.answers signed.answers r
-  pub authority : (r : Record) → Contains (proved_authority s q plain) r → HasSignatures s.zone (proved_authority s q plain) signed.authority r
+  pub authority : (r : Record) → Contains (proved_authority s q plain) r
+      → HasSignatures s.zone (proved_authority s q plain) signed.authority r
 
 abbrev pub SigningAddsAll : Type 0
-SigningAddsAll = (s : SignedState) (room : ℕ) (o : List ℕ) (q : Question) → asks_do o ≡ true → HasAll s q (name_server_reply s.zone q) (secure_reply s room o q)
+SigningAddsAll = (s : SignedState) (room : ℕ) (o : List ℕ) (q : Question) → asks_do o ≡ true
+    → HasAll s q (name_server_reply s.zone q) (secure_reply s room o q)
 
 -- Each absence is proved: what the reply says of each name that it is asked for is accepted with the NSECs that are chosen.
 abbrev pub RepliesAreAccepted : Type 0
-RepliesAreAccepted = (s : SignedState) (q : Question) (name : List (List ℕ)) → IsWhole s.zone s.nsecs → AreSorted s.nsecs → ends_name q.qname s.zone.apex ≡ true →
+RepliesAreAccepted = (s : SignedState) (q : Question) (name : List (List ℕ)) → IsWhole s.zone s.nsecs → AreSorted s.nsecs
+    → ends_name q.qname s.zone.apex ≡ true →
     Contains (asked_names s.zone q (name_server_reply s.zone q).answers) name → CanBeDenied s.zone name q.qtype →
     is_accepted s.zone (chosen s q (name_server_reply s.zone q).answers) q.qtype name ≡ true
 
--- The NSEC records of a reply are these NSECs: each that is chosen is what one of them says, where the zone's NSECs are those of its records
--- and no owner of one is below a DNAME record (RFC 6672, section 2.4).
+-- The NSEC records of a reply are these NSECs: each that is chosen is what one of them says. The zone's NSECs have to be those of
+-- its records, and no owner of one is below a DNAME record (RFC 6672, section 5.3.3).
 abbrev pub ChosenAreGiven : Type 0
-ChosenAreGiven = (s : SignedState) (q : Question) (answers : List Record) → IsWhole s.zone s.nsecs → AreSorted s.nsecs → IsChainOf s.zone.records s.nsecs →
+ChosenAreGiven = (s : SignedState) (q : Question) (answers : List Record) → IsWhole s.zone s.nsecs → AreSorted s.nsecs
+    → IsChainOf s.zone.records s.nsecs →
     ((n : NsecState) → Contains s.nsecs n → asked_region s.zone 43 n.owner ≡ Within) →
     (n : NsecState) → Contains (chosen s q answers) n → (r : Record) × Contains (denials s q answers) r × IsNsec r n
 

@@ -33,7 +33,8 @@ led_to r = if is_of 5 r then led_by (target r.rdata) else []
 
 -- that of the question, and of the targets of the aliases among answers, where they are followed, those in the zone
 abbrev pub asked_names : ZoneState → Question → List Record → List (List (List ℕ))
-asked_names z q answers = q.qname ∷ (if follows q.qtype then filter (λ (name : List (List ℕ)). ends_name name z.apex) (flat_map led_to answers) else [])
+asked_names z q answers = q.qname ∷ (if follows q.qtype
+    then filter (λ (name : List (List ℕ)). ends_name name z.apex) (flat_map led_to answers) else [])
 
 -- ---- the names whose NSEC records are given
 
@@ -104,7 +105,8 @@ denials s q answers = nsec_records_of s.zone [] (chosen s q answers)
 
 -- ---- RRSIGs
 
--- an RRSIG as it is given for a record: "The TTL value of an RRSIG RR MUST match the TTL value of the RRset it covers" (RFC 4034, section 3)
+-- an RRSIG as it is given for a record: "The TTL value of an RRSIG RR MUST match the TTL value of the RRset it covers" (RFC 4034,
+-- section 3)
 abbrev pub timed : Record → Record → Record
 timed r s = record s { ttl = r.ttl }
 
@@ -112,10 +114,12 @@ timed r s = record s { ttl = r.ttl }
 abbrev pub have_signatures : List Record → List (List ℕ) → Bool
 have_signatures rs owner = list_any (λ (s : Record). is_of 46 s && same_name s.owner owner) rs
 
--- The RRSIGs of a record among some, which don't have them (section 3.1.1): those of its owner, or of the wildcard that stands for it, which
+-- The RRSIGs of a record among some, which don't have them (section 3.1.1): those of its owner, or of the wildcard that stands for
+-- it, which
 -- cover its type. Glue has none (section 2.2), nor has a CNAME that is made of a DNAME (RFC 6672, section 5.3.1).
 abbrev pub rrsigs_of : ZoneState → List Record → Record → List Record
-rrsigs_of z rs r = if have_signatures rs r.owner then [] else map (timed r) (filter (is_signature (data_type r.rdata)) (reached_records z r.owner (had_records z r.owner 46)))
+rrsigs_of z rs r = if have_signatures rs r.owner then []
+    else map (timed r) (filter (is_signature (data_type r.rdata)) (reached_records z r.owner (had_records z r.owner 46)))
 
 -- those of records behind some, once for each RRset
 abbrev pub rrsigs : ZoneState → List Record → List Record → List Record → List Record

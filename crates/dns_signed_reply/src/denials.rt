@@ -125,7 +125,8 @@ fn deny_both(
     requires inside { IsTrue (ends_name name.now zone.now.zone.apex) }
     requires answered { IsAnswered zone.now.zone name.now }
     requires missing { exists zone.now.zone name.now ≡ false }
-    ensures { OnOk result (into.new.items ≡ nsec_records_of zone.now.zone into.old.items (flat_map (nearest zone.now.nsecs) (name.now ∷ wildcard zone.now.zone name.now ∷ []))) }
+    ensures { OnOk result (into.new.items ≡ nsec_records_of zone.now.zone into.old.items
+        (flat_map (nearest zone.now.nsecs) (name.now ∷ wildcard zone.now.zone name.now ∷ []))) }
 {
     let chain = zone.chain();
     let _sorted = chain.nsecs();
@@ -149,7 +150,8 @@ fn deny_type(
     into: &mut Vec<Record>,
 ) -> Result<(), OutOfMemory>
     requires { ReachesNode zone.now.zone rtype name.now kinds.now }
-    ensures { OnOk result (into.new.items ≡ nsec_records_of zone.now.zone into.old.items (flat_map (nearest zone.now.nsecs) (denied zone.now.zone rtype name.now))) }
+    ensures { OnOk result (into.new.items ≡ nsec_records_of zone.now.zone into.old.items
+        (flat_map (nearest zone.now.nsecs) (denied zone.now.zone rtype name.now))) }
 {
     if gives(Some(kinds), rtype) {
         return Ok(());
@@ -168,7 +170,8 @@ fn deny_missing(
 ) -> Result<(), OutOfMemory>
     requires inside { IsTrue (ends_name name.now zone.now.zone.apex) }
     requires reached { ReachesNone zone.now.zone rtype name.now skipped }
-    ensures { OnOk result (into.new.items ≡ nsec_records_of zone.now.zone into.old.items (flat_map (nearest zone.now.nsecs) (denied zone.now.zone rtype name.now))) }
+    ensures { OnOk result (into.new.items ≡ nsec_records_of zone.now.zone into.old.items
+        (flat_map (nearest zone.now.nsecs) (denied zone.now.zone rtype name.now))) }
 {
     let _chain = zone.chain();
     let tree = zone.zone();
@@ -186,7 +189,8 @@ fn deny_insecure(
     cut: &NameRef<'_>,
     into: &mut Vec<Record>,
 ) -> Result<(), OutOfMemory>
-    ensures { OnOk result (into.new.items ≡ nsec_records_of zone.now.zone into.old.items (flat_map (nearest zone.now.nsecs) (if are_some (owned_records zone.now.zone cut.now 43) then [] else cut.now ∷ []))) }
+    ensures { OnOk result (into.new.items ≡ nsec_records_of zone.now.zone into.old.items
+        (flat_map (nearest zone.now.nsecs) (if are_some (owned_records zone.now.zone cut.now 43) then [] else cut.now ∷ []))) }
 {
     let found = owned_records(zone.zone(), alloc, cut, DS)?;
     if found.as_slice().is_empty() {
@@ -202,7 +206,10 @@ fn deny_ds(
     kinds: &Kinds,
     into: &mut Vec<Record>,
 ) -> Result<(), OutOfMemory>
-    ensures { (t : ℕ) (name : List (List ℕ)) → asked_region zone.now.zone t name ≡ BelowCut (at_places zone.now.zone.records (kind_places 2 kinds.now)) → OnOk result (into.new.items ≡ nsec_records_of zone.now.zone into.old.items (flat_map (nearest zone.now.nsecs) (denied zone.now.zone t name))) }
+    ensures { (t : ℕ) (name : List (List ℕ))
+        → asked_region zone.now.zone t name ≡ BelowCut (at_places zone.now.zone.records (kind_places 2 kinds.now))
+        → OnOk result (into.new.items ≡ nsec_records_of zone.now.zone into.old.items
+        (flat_map (nearest zone.now.nsecs) (denied zone.now.zone t name))) }
 {
     let _chain = zone.chain();
     let servers = of_node(zone.zone(), alloc, kinds, NS)?;
@@ -221,7 +228,8 @@ fn deny_name(
     into: &mut Vec<Record>,
 ) -> Result<(), OutOfMemory>
     requires { IsTrue (ends_name name.now zone.now.zone.apex) }
-    ensures { OnOk result (into.new.items ≡ nsec_records_of zone.now.zone into.old.items (flat_map (nearest zone.now.nsecs) (denied zone.now.zone rtype name.now))) }
+    ensures { OnOk result (into.new.items ≡ nsec_records_of zone.now.zone into.old.items
+        (flat_map (nearest zone.now.nsecs) (denied zone.now.zone rtype name.now))) }
 {
     let tree = zone.zone();
     let found = tree.walk(alloc, name, rtype)?;
@@ -276,7 +284,8 @@ fn deny_targets(
     answers: &[Record],
     into: &mut Vec<Record>,
 ) -> Result<(), OutOfMemory>
-    ensures { OnOk result (into.new.items ≡ nsec_records_of zone.now.zone into.old.items (nsecs_inside zone.now rtype (flat_map led_to answers.now))) }
+    ensures { OnOk result (into.new.items ≡ nsec_records_of zone.now.zone into.old.items
+        (nsecs_inside zone.now rtype (flat_map led_to answers.now))) }
 {
     'each: for alias in answers {
         deny_target(zone, alloc, rtype, alias, into)?;

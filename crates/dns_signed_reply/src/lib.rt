@@ -3,9 +3,9 @@
 //! - `secure_reply` gives the reply of a `SignedZone` to a query and its question. Without DO it is that of dns_name_server.
 //! - `asks_do` says whether a query has an OPT record with DO.
 //!
-//! With DO each RRset of the answer and authority sections goes with its RRSIGs, and what the reply says is absent goes with the
-//! NSEC records that prove it, each once. A referral has the DS records of the delegation point, or the NSEC record that
-//! says there are none. RRSIGs of the additional section are given where the message stays within a size that the caller says.
+//! With DO each RRset of the answer and authority sections goes with its RRSIGs. What the reply says is absent goes with the NSEC
+//! records that prove it, each once. A referral has the DS records of the delegation point, or the NSEC record that says there are
+//! none. RRSIGs of the additional section are given where the message stays within a size that the caller says.
 //!
 //! ```text
 //! reply without DO  answer            authority                          additional

@@ -97,7 +97,8 @@ fn add_kind_as(
     name: &NameRef<'_>,
     into: &mut Vec<Record>,
 ) -> Result<(), OutOfMemory>
-    ensures { OnOk result (into.new.items ≡ into.old.items ++ map (given_as name.now) (at_places records.now (places_of rtype (kind.now ∷ [])))) }
+    ensures { OnOk result (into.new.items ≡ into.old.items
+        ++ map (given_as name.now) (at_places records.now (places_of rtype (kind.now ∷ [])))) }
 {
     match kind.record(records, rtype) {
         Some(record) => {
@@ -251,8 +252,8 @@ fn had_within(
     }
 }
 
-/// The records of a type that a name has, its own or those of the wildcard that stands for it, where the zone has authority
-/// over it.
+/// The records of a type that a name has, its own or those of the wildcard that stands for it. The zone has to have authority over
+/// it.
 pub(crate) fn had_records(
     zone: &ZoneTree,
     alloc: Global,

@@ -56,7 +56,8 @@ fn proved_authority(
     authority: Vec<Record>,
 ) -> Result<Vec<Record>, OutOfMemory>
     requires { IsTrue (ends_name question.now.qname zone.now.zone.apex) }
-    ensures { IfOk result (λ v. v.items ≡ (authority.items ++ ds_of zone.now.zone authority.items) ++ denials zone.now question.now answers.now) }
+    ensures { IfOk result (λ v. v.items ≡ (authority.items ++ ds_of zone.now.zone authority.items)
+        ++ denials zone.now question.now answers.now) }
 {
     let ds = ds_of(zone.zone(), alloc, authority.as_slice())?;
     let nsecs = denials(zone, alloc, question, answers)?;
@@ -116,7 +117,9 @@ fn built(
     authority: &WireRecords,
     additional: &WireRecords,
 ) -> Result<AdditionalBuilder, PushError>
-    ensures { Builds (unlimited (wire_message query.now (record { aa = reply.now.aa; rcode = reply.now.rcode; answers = answers.now; authority = authority.now; additional = additional.now }))) result }
+    ensures { Builds (unlimited (wire_message query.now
+        (record { aa = reply.now.aa; rcode = reply.now.rcode; answers = answers.now; authority = authority.now;
+        additional = additional.now }))) result }
 {
     let mut begun = begin_reply(alloc, query, reply.rcode, reply.aa)?;
     begun.push_records(answers)?;
@@ -147,7 +150,8 @@ fn in_room(
     room: u16,
 ) -> Result<AdditionalBuilder, PushError>
     requires { AreAllLawful (said reply.now) }
-    ensures { Builds (unlimited (zone_message query.now (as_room room query.now (take unsigned reply.now.additional.items) (said reply.now)))) result }
+    ensures { Builds (unlimited (zone_message query.now
+        (as_room room query.now (take unsigned reply.now.additional.items) (said reply.now)))) result }
 {
     let answers = written(alloc, reply.answers.as_slice())?;
     let authority = written(alloc, reply.authority.as_slice())?;
@@ -184,7 +188,9 @@ fn with_signatures(
     room: u16,
 ) -> Result<AdditionalBuilder, PushError>
     requires { IsTrue (ends_name question.now.qname zone.now.zone.apex) }
-    ensures { Builds (unlimited (zone_message query.now (as_room room query.now (name_server_reply zone.now.zone question.now).additional (do_reply zone.now question.now (name_server_reply zone.now.zone question.now))))) result }
+    ensures { Builds (unlimited (zone_message query.now
+        (as_room room query.now (name_server_reply zone.now.zone question.now).additional
+        (do_reply zone.now question.now (name_server_reply zone.now.zone question.now))))) result }
 {
     let tree = zone.zone();
     let _lawful = tree.records();

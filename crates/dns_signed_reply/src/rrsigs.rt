@@ -73,7 +73,8 @@ fn add_covering(
     signature: &Record,
     into: &mut Vec<Record>,
 ) -> Result<(), OutOfMemory>
-    ensures { OnOk result (into.new.items ≡ into.old.items ++ map (timed signed.now) (filter (is_signature (data_type signed.now.rdata)) (signature.now ∷ []))) }
+    ensures { OnOk result (into.new.items ≡ into.old.items
+        ++ map (timed signed.now) (filter (is_signature (data_type signed.now.rdata)) (signature.now ∷ []))) }
 {
     if is_signature(signature, signed.rdata.rtype().to_int()) {
         let copy = timed(alloc, signed, signature)?;
@@ -90,7 +91,8 @@ fn add_all_covering(
     signatures: &[Record],
     into: &mut Vec<Record>,
 ) -> Result<(), OutOfMemory>
-    ensures { OnOk result (into.new.items ≡ into.old.items ++ map (timed signed.now) (filter (is_signature (data_type signed.now.rdata)) signatures.now)) }
+    ensures { OnOk result (into.new.items ≡ into.old.items
+        ++ map (timed signed.now) (filter (is_signature (data_type signed.now.rdata)) signatures.now)) }
 {
     'each: for signature in signatures {
         add_covering(alloc, signed, signature, into)?;
@@ -105,7 +107,9 @@ fn add_signatures(
     signed: &Record,
     into: &mut Vec<Record>,
 ) -> Result<(), OutOfMemory>
-    ensures { OnOk result (into.new.items ≡ into.old.items ++ map (timed signed.now) (filter (is_signature (data_type signed.now.rdata)) (reached_records zone.now signed.now.owner (had_records zone.now signed.now.owner 46)))) }
+    ensures { OnOk result (into.new.items ≡ into.old.items
+        ++ map (timed signed.now) (filter (is_signature (data_type signed.now.rdata))
+        (reached_records zone.now signed.now.owner (had_records zone.now signed.now.owner 46)))) }
 {
     let had = had_records(zone, alloc, &signed.owner.for_ref(), RRSIG)?;
     add_all_covering(alloc, signed, had.as_slice(), into)
@@ -120,7 +124,8 @@ fn add_rrsigs(
     one: &Record,
     into: &mut Vec<Record>,
 ) -> Result<(), OutOfMemory>
-    ensures { OnOk result (into.new.items ≡ into.old.items ++ (if list_any (is_beside one.now) seen.now then [] else rrsigs_of zone.now records.now one.now)) }
+    ensures { OnOk result (into.new.items ≡ into.old.items
+        ++ (if list_any (is_beside one.now) seen.now then [] else rrsigs_of zone.now records.now one.now)) }
 {
     if has_beside(seen, one) {
         return Ok(());

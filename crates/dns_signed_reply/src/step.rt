@@ -64,7 +64,8 @@ fn followed_alias(rtype: u16, aliases: &[Record]) -> Option<&Record>
 
 /// Gives an alias, and goes to its target.
 fn follow(alloc: Global, alias: &Record, given: &mut Vec<Record>) -> Result<Step, OutOfMemory>
-    ensures { IfOk result (λ s. StepsTo given.old.items given.new.items s (λ go. behind_alias alias.now (gone_to go (target alias.now.rdata)))) }
+    ensures { IfOk result (λ s. StepsTo given.old.items given.new.items s
+        (λ go. behind_alias alias.now (gone_to go (target alias.now.rdata)))) }
 {
     let copy = alias.try_clone(alloc)?;
     given.push(copy)?;
@@ -105,7 +106,9 @@ fn at_node(
     kinds: &Kinds,
     given: &mut Vec<Record>,
 ) -> Result<Step, OutOfMemory>
-    ensures { (name : List (List ℕ)) → ReachesNode zone.now rtype name kinds.now → IfOk result (λ s. StepsTo given.old.items given.new.items s (λ go. by_region zone.now go rtype name (asked_region zone.now rtype name))) }
+    ensures { (name : List (List ℕ)) → ReachesNode zone.now rtype name kinds.now
+        → IfOk result (λ s. StepsTo given.old.items given.new.items s
+        (λ go. by_region zone.now go rtype name (asked_region zone.now rtype name))) }
 {
     let aliases = of_node(zone, alloc, kinds, CNAME)?;
     let records = of_node(zone, alloc, kinds, rtype)?;
@@ -121,7 +124,9 @@ fn at_wildcard(
     kinds: &Kinds,
     given: &mut Vec<Record>,
 ) -> Result<Step, OutOfMemory>
-    ensures { (n : ℕ) → ReachesNone zone.now rtype name.now n → IsNode zone.now (wildcard zone.now name.now) (Some kinds.now) → IfOk result (λ s. StepsTo given.old.items given.new.items s (λ go. by_region zone.now go rtype name.now (asked_region zone.now rtype name.now))) }
+    ensures { (n : ℕ) → ReachesNone zone.now rtype name.now n → IsNode zone.now (wildcard zone.now name.now) (Some kinds.now)
+        → IfOk result (λ s. StepsTo given.old.items given.new.items s
+        (λ go. by_region zone.now go rtype name.now (asked_region zone.now rtype name.now))) }
 {
     let aliases = of_wildcard(zone, alloc, kinds, CNAME, name)?;
     let records = of_wildcard(zone, alloc, kinds, rtype, name)?;
@@ -146,7 +151,8 @@ fn at_missing(
     given: &mut Vec<Record>,
 ) -> Result<Step, OutOfMemory>
     requires { ReachesNone zone.now rtype name.now skipped }
-    ensures { IfOk result (λ s. StepsTo given.old.items given.new.items s (λ go. by_region zone.now go rtype name.now (asked_region zone.now rtype name.now))) }
+    ensures { IfOk result (λ s. StepsTo given.old.items given.new.items s
+        (λ go. by_region zone.now go rtype name.now (asked_region zone.now rtype name.now))) }
 {
     let found = zone.wildcard(alloc, &name.behind(skipped))?;
     match found {
@@ -228,7 +234,8 @@ fn by_target(
     dname: &Record,
     given: &mut Vec<Record>,
 ) -> Result<Step, OutOfMemory>
-    ensures { IfOk result (λ s. StepsTo given.old.items given.new.items s (λ go. by_target go rtype name.now dname.now (target dname.now.rdata))) }
+    ensures { IfOk result (λ s. StepsTo given.old.items given.new.items s
+        (λ go. by_target go rtype name.now dname.now (target dname.now.rdata))) }
 {
     match record_target(dname) {
         Some(target) => substituted(alloc, rtype, name, dname, target, given),
@@ -244,7 +251,8 @@ fn give_dname(
     dname: &Record,
     given: &mut Vec<Record>,
 ) -> Result<Step, OutOfMemory>
-    ensures { IfOk result (λ s. StepsTo given.old.items given.new.items s (λ go. behind_alias dname.now (by_target go rtype name.now dname.now (target dname.now.rdata)))) }
+    ensures { IfOk result (λ s. StepsTo given.old.items given.new.items s
+        (λ go. behind_alias dname.now (by_target go rtype name.now dname.now (target dname.now.rdata)))) }
 {
     let copy = dname.try_clone(alloc)?;
     given.push(copy)?;
@@ -260,7 +268,8 @@ fn at_dname(
     kinds: &Kinds,
     given: &mut Vec<Record>,
 ) -> Result<Step, OutOfMemory>
-    ensures { IfOk result (λ s. StepsTo given.old.items given.new.items s (λ go. by_dname go rtype name.now (at_places zone.now.records (kind_places 39 kinds.now)))) }
+    ensures { IfOk result (λ s. StepsTo given.old.items given.new.items s
+        (λ go. by_dname go rtype name.now (at_places zone.now.records (kind_places 39 kinds.now)))) }
 {
     let found = of_node(zone, alloc, kinds, DNAME)?;
     match found.as_slice().first() {
@@ -271,7 +280,8 @@ fn at_dname(
 
 /// A referral to a cut.
 fn at_cut(zone: &ZoneTree, alloc: Global, kinds: &Kinds) -> Result<Step, OutOfMemory>
-    ensures { IfOk result (λ s. (go : List (List ℕ) → ZoneReply) → step_reply go s ≡ referral zone.now (at_places zone.now.records (kind_places 2 kinds.now))) }
+    ensures { IfOk result (λ s. (go : List (List ℕ) → ZoneReply)
+        → step_reply go s ≡ referral zone.now (at_places zone.now.records (kind_places 2 kinds.now))) }
 {
     let reply = referral(zone, alloc, kinds)?;
     Ok(Step::End(reply))
@@ -286,7 +296,8 @@ pub(crate) fn step_of(
     given: &mut Vec<Record>,
 ) -> Result<Step, OutOfMemory>
     requires { IsTrue (ends_name name.now zone.now.apex) }
-    ensures { IfOk result (λ s. StepsTo given.old.items given.new.items s (λ go. by_region zone.now go rtype name.now (asked_region zone.now rtype name.now))) }
+    ensures { IfOk result (λ s. StepsTo given.old.items given.new.items s
+        (λ go. by_region zone.now go rtype name.now (asked_region zone.now rtype name.now))) }
 {
     let found = zone.walk(alloc, name, rtype)?;
     match found {

@@ -8,8 +8,8 @@ use Rattle.dns_zone.specs.Owned.{ZoneState, is_of, is_owned}
 use Rattle.dns_zone.specs.ZoneErrors.{has_other_class, is_misplaced, is_outside}
 use Rattle.dns_zone_tree.specs.Long.{is_long}
 use Rattle.dns_zone_tree.specs.Wildcards.{star}
-use Rattle.dns_zone_tree.specs.declared.check.Fault.{Fault}
-use Rattle.dns_zone_tree.specs.declared.check.Fault.TheVariants.{OutsideApex, OtherClass, IsOpt, Misplaced, WildServers, TooLong}
+use Rattle.dns_zone_tree.specs.declared.check.RecordDefect.{RecordDefect}
+use Rattle.dns_zone_tree.specs.declared.check.RecordDefect.TheVariants.{OutsideApex, OtherClass, IsOpt, Misplaced, WildServers, TooLong}
 use Rattle.dns_zone_tree.specs.declared.error.TreeError.{TreeError}
 use Rattle.dns_zone_tree.specs.declared.error.TreeError.TheVariants.{Outside, Class, Opt, Soa, SoaPlace, WildNs, Long, Large, Cname, OutOfMemory as NoMemory}
 
@@ -41,7 +41,7 @@ is_beside name r = is_owned name r && is_alone r
 abbrev pub is_crowded : List Record → Record → Bool
 is_crowded rs r = is_of 5 r && nat_lt 1 (length (filter (is_beside r.owner) rs))
 
-abbrev pub has_fault : Fault → List (List ℕ) → Record → Bool
+abbrev pub has_fault : RecordDefect → List (List ℕ) → Record → Bool
 has_fault OutsideApex apex r = is_outside apex r
 has_fault OtherClass apex r = has_other_class r
 has_fault IsOpt apex r = is_of 41 r

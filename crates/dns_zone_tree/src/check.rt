@@ -25,7 +25,7 @@ const RECORD_LIMIT: usize = 65000;
 
 /// What is looked for among the records of a list.
 #[derive(Clone, Copy)]
-pub(crate) enum Fault {
+pub(crate) enum RecordDefect {
     /// An owner that doesn't end with the apex.
     OutsideApex,
     /// Another class than IN.
@@ -40,19 +40,19 @@ pub(crate) enum Fault {
     TooLong,
 }
 
-impl Fault {
+impl RecordDefect {
     /// Whether a record has it, where the apex is this name.
     fn is_in(self, apex: &Name, resource: &Record) -> bool
         requires { IsLawful resource.now.rdata }
         ensures { result ≡ has_fault self apex.now resource.now }
     {
         match self {
-            Fault::OutsideApex => is_outside(apex, resource),
-            Fault::OtherClass => resource.class != Class::IN,
-            Fault::IsOpt => resource.rdata.rtype() == Rtype::OPT,
-            Fault::Misplaced => resource.rdata.rtype() == Rtype::SOA && resource.owner != *apex,
-            Fault::WildServers => has_wild_servers(resource),
-            Fault::TooLong => resource.compose_len() > RECORD_LIMIT,
+            RecordDefect::OutsideApex => is_outside(apex, resource),
+            RecordDefect::OtherClass => resource.class != Class::IN,
+            RecordDefect::IsOpt => resource.rdata.rtype() == Rtype::OPT,
+            RecordDefect::Misplaced => resource.rdata.rtype() == Rtype::SOA && resource.owner != *apex,
+            RecordDefect::WildServers => has_wild_servers(resource),
+            RecordDefect::TooLong => resource.compose_len() > RECORD_LIMIT,
         }
     }
 }
@@ -83,7 +83,7 @@ fn is_wild(name: &Name) -> bool
 }
 
 /// The place of the first record that has a fault.
-fn first_with(fault: Fault, apex: &Name, records: &[Record]) -> Option<usize>
+fn first_with(fault: RecordDefect, apex: &Name, records: &[Record]) -> Option<usize>
     requires { AreLawful records.now }
     ensures { result ≡ position (has_fault fault apex.now) records.now }
 {
@@ -113,13 +113,13 @@ fn check_places(apex: &Name, records: &[Record]) -> Result<(), TreeError>
     requires { AreLawful records.now }
     ensures { result ≡ refused (place_error apex.now records.now) }
 {
-    if let Some(index) = first_with(Fault::OutsideApex, apex, records) {
+    if let Some(index) = first_with(RecordDefect::OutsideApex, apex, records) {
         return Err(TreeError::Outside(index));
     }
-    if let Some(index) = first_with(Fault::OtherClass, apex, records) {
+    if let Some(index) = first_with(RecordDefect::OtherClass, apex, records) {
         return Err(TreeError::Class(index));
     }
-    if let Some(index) = first_with(Fault::IsOpt, apex, records) {
+    if let Some(index) = first_with(RecordDefect::IsOpt, apex, records) {
         return Err(TreeError::Opt(index));
     }
     Ok(())
@@ -134,13 +134,13 @@ fn check_soa(apex: &Name, records: &[Record]) -> Result<(), TreeError>
     if count != 1 {
         return Err(TreeError::Soa(count));
     }
-    if let Some(index) = first_with(Fault::Misplaced, apex, records) {
+    if let Some(index) = first_with(RecordDefect::Misplaced, apex, records) {
         return Err(TreeError::SoaPlace(index));
     }
-    if let Some(index) = first_with(Fault::WildServers, apex, records) {
+    if let Some(index) = first_with(RecordDefect::WildServers, apex, records) {
         return Err(TreeError::WildNs(index));
     }
-    if let Some(index) = first_with(Fault::TooLong, apex, records) {
+    if let Some(index) = first_with(RecordDefect::TooLong, apex, records) {
         return Err(TreeError::Long(index));
     }
     Ok(())

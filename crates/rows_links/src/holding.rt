@@ -53,7 +53,7 @@ fn part_of(id: u16) -> Part {
 
 /// The reply to a request, which its first poll gives.
 #[derive(Drop)]
-pub struct Held {
+pub struct HoldingFuture {
     flag: Arc<AtomicBool>,
     part: Part,
     stream: Option<Once>,
@@ -69,7 +69,7 @@ fn is_set(flag: &AtomicBool) -> bool {
     false
 }
 
-impl ReplyFuture for Held {
+impl ReplyFuture for HoldingFuture {
     type Stream = Once;
 
     ghost answer = { λ h. now_of ⟦<Once as ReplyStream>⟧.answer h.stream };
@@ -94,7 +94,7 @@ impl ReplyFuture for Held {
 impl Service<()> for Holding {
     type Stream = Once;
 
-    type Future = Held;
+    type Future = HoldingFuture;
 
     ghost answer = { λ h request. once (Ok (record { response = Some (error_reply request.octets h.rcode); feedback = None })) };
 
@@ -102,13 +102,13 @@ impl Service<()> for Holding {
 
     ghost can_call = { λ _. Unit {0} };
 
-    fn call(&self, alloc: Global, request: &mut Request<()>) -> Result<Held, OutOfMemory> {
+    fn call(&self, alloc: Global, request: &mut Request<()>) -> Result<HoldingFuture, OutOfMemory> {
         let flag = Arc::try_clone(&self.flag)?;
         let part = part_of(request.message().header().id());
         match mk_error_response(alloc, request.message(), self.rcode) {
             Ok(reply) => {
                 let stream = Some(Once::new(Ok(CallResult::new(reply))));
-                Ok(Held { flag, part, stream })
+                Ok(HoldingFuture { flag, part, stream })
             }
             Err(error) => Err(error),
         }
