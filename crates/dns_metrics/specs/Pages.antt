@@ -55,7 +55,7 @@ IsGiven old new = ((families : List Family) × Extends text_format (exposition_t
 abbrev pub IsPage : Page → Response → Type 0
 IsPage Metrics r =
     ((families : List Family) × IsResponse 200 (closing ∷ text_format ∷ []) (exposition_text families) r)
-        ⊎ IsResponse 500 (closing ∷ []) [] r
+    ⊎ IsResponse 500 (closing ∷ []) [] r
 IsPage NotAllowed r = IsResponse 405 (closing ∷ allowed ∷ []) [] r
 IsPage NotFound r = IsResponse 404 (closing ∷ []) [] r
 

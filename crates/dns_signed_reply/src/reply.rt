@@ -118,8 +118,13 @@ fn built(
     additional: &WireRecords,
 ) -> Result<AdditionalBuilder, PushError>
     ensures { Builds (unlimited (wire_message query.now
-        (record { aa = reply.now.aa; rcode = reply.now.rcode; answers = answers.now; authority = authority.now;
-        additional = additional.now }))) result }
+        (record {
+          aa = reply.now.aa;
+          rcode = reply.now.rcode;
+          answers = answers.now;
+          authority = authority.now;
+          additional = additional.now;
+        }))) result }
 {
     let mut begun = begin_reply(alloc, query, reply.rcode, reply.aa)?;
     begun.push_records(answers)?;

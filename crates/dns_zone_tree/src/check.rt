@@ -50,7 +50,8 @@ impl RecordDefect {
             RecordDefect::OutsideApex => is_outside(apex, resource),
             RecordDefect::OtherClass => resource.class != Class::IN,
             RecordDefect::IsOpt => resource.rdata.rtype() == Rtype::OPT,
-            RecordDefect::Misplaced => resource.rdata.rtype() == Rtype::SOA && resource.owner != *apex,
+            RecordDefect::Misplaced => resource.rdata.rtype() == Rtype::SOA
+                && resource.owner != *apex,
             RecordDefect::WildServers => has_wild_servers(resource),
             RecordDefect::TooLong => resource.compose_len() > RECORD_LIMIT,
         }

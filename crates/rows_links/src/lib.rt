@@ -12,6 +12,6 @@ mod holding;
 mod links;
 mod places;
 
-pub use holding::{HoldingFuture, Holding};
+pub use holding::{Holding, HoldingFuture};
 pub use links::{Marking, Seen, SeenLink, links_of, show};
 pub use places::{PEER, accept_of, book_of, calls, clock, let_go, packet};
