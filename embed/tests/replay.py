@@ -397,7 +397,7 @@ class Play:
 
 
 def judged(library, path, by_looks):
-    """What became of a script: the same, or left out and why, or what differs."""
+    """What became of a script: `the same`, or left out and why, or what differs."""
     name = path.removesuffix(".script")
     if os.path.exists(f"{name}.status") and open(f"{name}.status", encoding="ascii").read().strip() != "0":
         return "left out: refused"
