@@ -22,6 +22,8 @@ pub struct Config {
     pub listen: Vec<Endpoint>,
     /// The Unix socket at which it is controlled.
     pub control: Option<String>,
+    /// Where its metrics are told over HTTP.
+    pub metrics: Option<Endpoint>,
     /// How many workers serve the datagrams of each address.
     pub workers: Option<usize>,
     /// The identifier of the server, for clients that ask for it (RFC 5001).

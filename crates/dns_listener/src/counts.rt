@@ -23,33 +23,49 @@ pub struct Counters {
     notes: Arc<TransferNotes>,
 }
 
-/// Appends how many replies had a response code.
-fn push_count(
-    text: &mut String,
-    counts: &ReplyCounts,
-    name: &str,
-    code: Rcode,
-) -> Result<(), AllocError> {
-    let udp = counts.number(false, code);
-    let tcp = counts.number(true, code);
-    writeln!(text, "replies {name} {udp} over UDP, {tcp} over TCP")
+/// How many replies had a response code, over each transport.
+#[derive(Clone, Copy)]
+pub struct ReplyNumbers {
+    /// The name of the code.
+    pub code: &'static str,
+    pub udp: u64,
+    pub tcp: u64,
 }
 
-/// Appends a line for each response code that is told.
-fn push_replies(text: &mut String, counts: &ReplyCounts) -> Result<(), AllocError> {
-    let codes = [
-        ("NOERROR", Rcode::NOERROR),
-        ("FORMERR", Rcode::FORMERR),
-        ("SERVFAIL", Rcode::SERVFAIL),
-        ("NXDOMAIN", Rcode::NXDOMAIN),
-        ("NOTIMP", Rcode::NOTIMP),
-        ("REFUSED", Rcode::REFUSED),
-        ("NOTAUTH", Rcode::NOTAUTH),
-    ];
-    for (name, code) in codes {
-        push_count(text, counts, name, code)?;
+/// What was counted up to a moment.
+#[derive(Clone, Copy)]
+pub struct Numbers {
+    pub replies: [ReplyNumbers; 7],
+    /// Connections that were accepted.
+    pub connections: u64,
+    /// Responses that were dropped.
+    pub dropped: u64,
+    /// Transfers that began.
+    pub begun: u64,
+    /// Transfers that were refused.
+    pub refused: u64,
+}
+
+/// How many replies had a response code, which has this name.
+fn reply_numbers(counts: &ReplyCounts, code: &'static str, number: Rcode) -> ReplyNumbers {
+    ReplyNumbers {
+        code,
+        udp: counts.number(false, number),
+        tcp: counts.number(true, number),
     }
-    Ok(())
+}
+
+/// How many replies had each response code that is told.
+fn all_replies(counts: &ReplyCounts) -> [ReplyNumbers; 7] {
+    [
+        reply_numbers(counts, "NOERROR", Rcode::NOERROR),
+        reply_numbers(counts, "FORMERR", Rcode::FORMERR),
+        reply_numbers(counts, "SERVFAIL", Rcode::SERVFAIL),
+        reply_numbers(counts, "NXDOMAIN", Rcode::NXDOMAIN),
+        reply_numbers(counts, "NOTIMP", Rcode::NOTIMP),
+        reply_numbers(counts, "REFUSED", Rcode::REFUSED),
+        reply_numbers(counts, "NOTAUTH", Rcode::NOTAUTH),
+    ]
 }
 
 /// Logs what became of a question for a transfer.
@@ -97,14 +113,32 @@ impl Counters {
         }
     }
 
+    /// What was counted so far.
+    pub fn numbers(&self) -> Numbers {
+        Numbers {
+            replies: all_replies(&self.replies),
+            connections: self.queries.connections(),
+            dropped: self.queries.dropped(),
+            begun: self.notes.begun(),
+            refused: self.notes.refused(),
+        }
+    }
+
     /// A line for each count.
     pub fn report(&self, alloc: Global) -> Result<String, AllocError> {
+        let numbers = self.numbers();
         let mut text = String::new(alloc);
-        push_replies(&mut text, &self.replies)?;
-        let connections = self.queries.connections();
-        let dropped = self.queries.dropped();
-        let begun = self.notes.begun();
-        let refused = self.notes.refused();
+        for reply in numbers.replies.iter() {
+            let ReplyNumbers { code, udp, tcp } = *reply;
+            writeln!(text, "replies {code} {udp} over UDP, {tcp} over TCP")?;
+        }
+        let Numbers {
+            connections,
+            dropped,
+            begun,
+            refused,
+            ..
+        } = numbers;
         writeln!(text, "connections {connections} accepted")?;
         writeln!(text, "responses {dropped} dropped")?;
         writeln!(text, "transfers {begun} begun, {refused} refused")?;

@@ -5,7 +5,8 @@
 //! - `Offer` is what is served: the zones, by settings, with the target of NOTIFY and the identifier of the server.
 //! - `Running` is a listener that serves an offer in a thread. `has_ended` says whether one has ended by itself, `close_all`
 //!   shuts them down, and `take_back` gives the listeners back, whose sockets stay open for what is served next.
-//! - `Counters` are what is counted at all listeners. `log_transfers` logs what was noted of transfers.
+//! - `Counters` are what is counted at all listeners: `numbers` gives the counts of a moment, and `report` says them in lines.
+//!   `log_transfers` logs what was noted of transfers.
 //!
 //! ```text
 //! bind_all -> Running::start for each -> close_all -> take_back -> Running::start ..
@@ -30,7 +31,7 @@ mod listener;
 mod place;
 mod running;
 
-pub use counts::Counters;
+pub use counts::{Counters, Numbers, ReplyNumbers};
 pub use layers::Tally;
 pub use listener::{Listener, bind_all, say_listeners};
 pub use running::{Offer, Running, close_all, has_ended, take_back};

@@ -66,6 +66,7 @@ fn server_of(
     ServerConfig {
         listen,
         control: None,
+        metrics: None,
         workers: None,
         nsid: None,
         allow_transfer: Vec::new(alloc),

@@ -136,6 +136,9 @@ pub(crate) fn check(rt: &HostRuntime, path: &str) -> anyhow::Result<()> {
     for endpoint in config.listen.iter() {
         println!(rt; "listen {}", SocketAddrText(endpoint.address))?;
     }
+    if let Some(endpoint) = &config.metrics {
+        println!(rt; "metrics {}", SocketAddrText(endpoint.address))?;
+    }
     let zones = report(rt.alloc(), &config, generation.summaries())?;
     print!(rt; "{zones}")?;
     Ok(())

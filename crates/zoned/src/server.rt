@@ -1,6 +1,7 @@
 //! A server: generation after generation at the listeners.
 
 use crate::load::report;
+use crate::measures::{Measures, Shown};
 use crate::orders::{Order, hear};
 use crate::served::Served;
 use anyhow::Context;
@@ -9,15 +10,17 @@ use dns_control::{Caller, Control};
 use dns_listener::{
     Counters, Listener, Offer, Running, bind_all, close_all, has_ended, say_listeners, take_back,
 };
-use dns_name::OutOfMemory;
+use dns_metrics::Endpoint;
+use dns_name::{OutOfMemory, SocketAddr};
 use dns_notifier::Notifier;
+use dns_socket_addr::{SocketAddrText, to_std};
 use dns_zone_copies::Copies;
 use log::{Log, error, info};
-use std::alloc::Global;
+use std::alloc::{AllocError, Global};
 use std::net::Net;
 use std::random::RandomSource;
 use std::rt::{Clock, Files};
-use std::sync::Wait;
+use std::sync::{Arc, Mutex, Wait};
 use std::thread::{self, Threads};
 use std::time::{Duration, Instant};
 
@@ -49,7 +52,9 @@ struct Server {
     served: Served,
     copies: Copies,
     notifier: Notifier,
-    counters: Counters,
+    counters: Arc<Counters>,
+    shown: Arc<Mutex<Shown>>,
+    endpoint: Option<Endpoint>,
     control: Option<Control>,
     stopper: Option<Caller>,
     phase: Phase,
@@ -85,9 +90,10 @@ impl Server {
     fn new(rt: &HostRuntime, path: &str) -> anyhow::Result<Server> {
         let alloc = rt.alloc();
         let since = Instant::now(rt)?;
-        let counters = Counters::new(alloc)?;
+        let counters = Arc::new(alloc, Counters::new(alloc)?)?;
         let copies = Copies::new(alloc)?;
         let served = Served::load(rt, 1, path, &[])?;
+        let shown = Arc::new(alloc, Mutex::new(Shown::of(alloc, &served)?))?;
         let path = String::from_str(alloc, path)?;
         Ok(Server {
             path,
@@ -96,14 +102,38 @@ impl Server {
             copies,
             notifier: Notifier::new(alloc),
             counters,
+            shown,
+            endpoint: None,
             control: None,
             stopper: None,
             phase: Phase::Serving,
         })
     }
 
+    /// Starts the thread that tells the metrics at an address, and gives the address with the port that the system picked.
+    fn open_metrics<R: Net + Clock + RandomSource + Threads + Wait + Copy + Send + Sync + 'static>(
+        &mut self,
+        machine: R,
+        alloc: Global,
+        wanted: SocketAddr,
+    ) -> anyhow::Result<SocketAddr> {
+        let measures = Measures {
+            machine,
+            since: self.since,
+            counters: Arc::try_clone(&self.counters)?,
+            shown: Arc::try_clone(&self.shown)?,
+        };
+        let endpoint = Endpoint::start(machine, alloc, to_std(wanted), measures).context(
+            format_args!("metrics {}", SocketAddrText(wanted)),
+        )?;
+        let port = endpoint.address().port();
+        self.endpoint = Some(endpoint);
+        let ip = wanted.ip;
+        Ok(SocketAddr { ip, port })
+    }
+
     /// Opens all sockets, and says where is listened.
-    fn open<R: Net + Files + Clock + Threads + Copy>(
+    fn open<R: Net + Files + Clock + RandomSource + Threads + Wait + Copy + Send + Sync + 'static>(
         &mut self,
         machine: R,
         rt: &HostRuntime,
@@ -112,7 +142,14 @@ impl Server {
         let listeners = bind_all(machine, alloc, &self.served.config, self.counters.queries())?;
         self.control = open_control(&machine, alloc, &self.served.config)?;
         self.follow_copies(rt)?;
+        let metrics = match self.served.config.metrics {
+            Some(wanted) => Some(self.open_metrics(machine, alloc, wanted.address)?),
+            None => None,
+        };
         say_listeners(rt, listeners.as_slice())?;
+        if let Some(address) = metrics {
+            println!(rt; "metrics at {}", SocketAddrText(address))?;
+        }
         Ok(listeners)
     }
 
@@ -310,6 +347,14 @@ impl Server {
             .tell_changes(machine, rt.alloc(), &served.config, summaries, now)
     }
 
+    /// Shows the generation that is served in the metrics.
+    fn show<R: Wait>(&self, machine: &R, alloc: Global) -> Result<(), AllocError> {
+        let shown = Shown::of(alloc, &self.served)?;
+        let mut kept = self.shown.lock(machine);
+        *kept = shown;
+        Ok(())
+    }
+
     /// Serves a generation at these listeners, until another one is to be served, or none, or a listener ends by itself. Gives the
     /// listeners back.
     fn serve_generation<
@@ -322,6 +367,7 @@ impl Server {
     ) -> anyhow::Result<Vec<Listener<R>>> {
         info!(rt; "generation {} is served", self.served.number);
         self.phase = Phase::Serving;
+        self.show(&machine, rt.alloc())?;
         if let Err(fault) = self.tell(&machine, rt) {
             error!(rt; "NOTIFY: {fault:#}");
         }
@@ -344,16 +390,22 @@ impl Server {
         Ok(())
     }
 
-    /// Ends the checks of copies, removes the control socket, and tells who asked for the end that it has come, and whether a fault
-    /// did.
-    fn end<R: Files + Threads>(self, machine: &R, is_without_fault: bool) {
+    /// Ends the checks of copies and the page of metrics, removes the control socket, and tells who asked for the end that it has
+    /// come, and whether a fault did.
+    fn end<R: Files + Threads + Log>(self, machine: &R, is_without_fault: bool) {
         let Server {
             copies,
+            endpoint,
             control,
             stopper,
             ..
         } = self;
         copies.end(machine);
+        if let Some(endpoint) = endpoint {
+            if let Err(fault) = endpoint.shutdown(machine) {
+                error!(machine; "metrics: {fault}");
+            }
+        }
         if let Some(control) = control {
             control.remove(machine);
         }
