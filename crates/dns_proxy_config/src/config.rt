@@ -16,8 +16,8 @@ const REPLIES: usize = 10_000;
 /// Where a proxy listens, which servers it asks, and within which limits.
 #[derive(Drop)]
 pub struct Config {
-    /// What a name server's configuration says too: where is listened, limits of responses and connections, cookies. It has no
-    /// zones.
+    /// What a name server's configuration says too: where is listened and controlled, limits of responses and connections, cookies.
+    /// It has no zones.
     pub server: ServerConfig,
     /// The networks whose clients need a good cookie over UDP.
     pub required: Vec<Prefix>,
@@ -25,6 +25,8 @@ pub struct Config {
     pub cache: Option<usize>,
     pub limits: Limits,
     pub upstream: Vec<UpstreamEntry>,
+    /// Where the page of metrics is served, over HTTP.
+    pub metrics: Option<Endpoint>,
 }
 
 /// The servers that are asked for a name and those below it.
@@ -40,6 +42,8 @@ pub struct UpstreamEntry {
 #[serde(deny_unknown_fields, rename_all = "kebab-case")]
 struct Keys {
     listen: Vec<Endpoint>,
+    control: Option<String>,
+    metrics: Option<Endpoint>,
     cache: Option<usize>,
     #[serde(default)]
     limits: Limits,
@@ -52,10 +56,12 @@ struct Keys {
 fn server_of(
     alloc: Global,
     listen: Vec<Endpoint>,
+    control: Option<String>,
     limits: &Limits,
     cookies: Option<Cookies>,
 ) -> ServerConfig
     ensures listen { result.listen ≡ listen }
+    ensures control { result.control ≡ control }
     ensures zones { result.zone.items ≡ [] }
     ensures limits { result.limits ≡ client_limits limits.now }
     ensures timeouts { result.timeouts ≡ client_timeouts limits.now }
@@ -65,7 +71,7 @@ fn server_of(
 {
     ServerConfig {
         listen,
-        control: None,
+        control,
         metrics: None,
         workers: None,
         nsid: None,
@@ -105,6 +111,8 @@ fn config_of(alloc: Global, keys: Keys) -> Result<Config, ConfigError>
 {
     let Keys {
         listen,
+        control,
+        metrics,
         cache,
         limits,
         cookies,
@@ -114,13 +122,14 @@ fn config_of(alloc: Global, keys: Keys) -> Result<Config, ConfigError>
         return Err(ConfigError::NoAddress);
     }
     let (cookies, required) = cookies_of(alloc, cookies);
-    let server = server_of(alloc, listen, &limits, cookies);
+    let server = server_of(alloc, listen, control, &limits, cookies);
     Ok(Config {
         server,
         required,
         cache,
         limits,
         upstream,
+        metrics,
     })
 }
 
