@@ -25,15 +25,15 @@
 #![tactic(auto)]
 
 mod counts;
+mod lines;
 mod listing;
 mod orders;
 mod replies;
-mod report;
 mod watch;
 
 pub use counts::{ProxyCounts, ProxyEvent};
+pub use lines::report;
 pub use listing::families_of;
 pub use orders::{StatusOrder, order_of};
 pub use replies::{AtOnce, at_once_of};
-pub use report::report;
 pub use watch::Watch;

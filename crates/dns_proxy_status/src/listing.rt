@@ -1,7 +1,7 @@
 //! Counts as metrics.
 
 use crate::counts::{ProxyCounts, ProxyEvent};
-use crate::report::code_name;
+use crate::lines::code_name;
 use dns_metrics::{Family, Label, MetricError, MetricKind};
 use std::alloc::Global;
 

@@ -1,9 +1,9 @@
 //! What is served beside a proxy.
 
 use crate::counts::ProxyCounts;
+use crate::lines::report;
 use crate::listing::families_of;
 use crate::orders::{StatusOrder, order_of};
-use crate::report::report;
 use dns_control::{Caller, Control};
 use dns_metrics::{Endpoint, Family, Measured, MetricError};
 use mio::Waker;
@@ -62,7 +62,7 @@ struct Hearing<R> {
     stoppers: Vec<Caller>,
 }
 
-impl<R: Clock> Hearing<R> {
+impl<R: Clock + Drop> Hearing<R> {
     /// Says what was counted.
     fn say_status(&self, caller: &mut Caller) -> io::Result<()> {
         let text = report(self.alloc, &self.measures.counts, self.measures.seconds())?;
@@ -211,7 +211,7 @@ impl Watch {
 }
 
 /// What is measured of a proxy that runs since now.
-fn measures_of<R: Clock>(machine: R, counts: &Arc<ProxyCounts>) -> io::Result<Measures<R>> {
+fn measures_of<R: Clock + Drop>(machine: R, counts: &Arc<ProxyCounts>) -> io::Result<Measures<R>> {
     let since = Instant::now(&machine)?;
     let counts = Arc::try_clone(counts)?;
     Ok(Measures {
