@@ -115,9 +115,8 @@ impl<R: Clock + Drop> Hearing<R> {
 
 impl<R: Clock + Files + Wait + Copy> Hearing<R> {
     /// Does what callers ask, until the proxy has ended.
-    fn run(self) {
+    fn run(self, machine: R) {
         let mut hearing = self;
-        let machine = hearing.measures.machine;
         for _ in machine.forever() {
             if hearing.phase.has_ended.load(Ordering::SeqCst) {
                 break;
@@ -184,7 +183,7 @@ impl Watch {
             waker,
             stoppers: Vec::new(alloc),
         };
-        self.hearing = Some(thread::spawn(&machine, move || hearing.run())?);
+        self.hearing = Some(thread::spawn(&machine, move || hearing.run(machine))?);
         Ok(())
     }
 
