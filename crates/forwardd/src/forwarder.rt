@@ -39,7 +39,7 @@ pub(crate) const BATCH: u32 = 64;
 /// The largest datagram.
 const DATAGRAM: usize = 65_535;
 
-/// The token of what wakes the forwarder. It stands for a connection that is never there.
+/// The token of what wakes the forwarder. It stands for what is never there.
 const STOP: Token = Token(usize::MAX);
 
 /// A proxy, the sockets of its clients and its upstreams.

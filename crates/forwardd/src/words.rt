@@ -1,7 +1,7 @@
 //! The words of the command line.
 
-ghost use Rattle.std.specs.Prelude.{◌≡◌, map, string_bytes};
-ghost use Rattle.forwardd.specs.Words.{control_order, order_of};
+ghost use Rattle.std.specs.Prelude.{◌≡◌, ◌≤◌, length, map, string_bytes};
+ghost use Rattle.forwardd.specs.Words.{control_order, order_of, path_in};
 
 /// What the words ask for.
 #[derive(Clone, Copy)]
@@ -46,11 +46,15 @@ pub(crate) fn order_of(words: &[String]) -> Option<Order>
     None
 }
 
-/// The path of the configuration, which stands first of words for an order, or second.
-pub(crate) fn path_of(words: &[String]) -> &str {
-    let index = if words.len() == 2 { 1 } else { 2 };
-    match words.get(index) {
-        Some(path) => path.as_str(),
-        None => "",
+/// The path of the configuration: behind the program's name, or behind `check` or `ctl`.
+pub(crate) fn path_of(words: &[String]) -> &str
+    ensures { 2 ≤ length words.now → result.now ≡ path_in (map string_bytes words.now) }
+{
+    if words.len() == 2 {
+        return words[1].as_str();
     }
+    if words.len() > 2 {
+        return words[2].as_str();
+    }
+    ""
 }
