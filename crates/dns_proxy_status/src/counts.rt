@@ -1,38 +1,9 @@
 //! Counts that threads share.
 
-use crate::replies::{AtOnce, at_once_of};
+use crate::events::{ProxyEvent, event_at_once, message_event};
 use dns_message::MessageRef;
 use std::alloc::{AllocError, Global};
 use std::sync::atomic::{AtomicU64, Ordering};
-
-/// What is counted of a proxy.
-#[derive(Clone, Copy)]
-pub enum ProxyEvent {
-    /// A query came in a datagram.
-    QueryOverUdp,
-    /// A query came over a connection.
-    QueryOverTcp,
-    /// A query was answered out of the cache.
-    Cached,
-    /// A server was sent a question in a datagram.
-    AskedOverUdp,
-    /// It was sent one again, since nothing came in time.
-    AskedAgain,
-    /// It was asked over a connection, since its answer was truncated.
-    AskedOverTcp,
-    /// A query was given up: no server answered it.
-    GivenUp,
-    /// A query was refused, since it lacks a good cookie.
-    NoCookie,
-    /// One query more than there may be was answered SERVFAIL.
-    Full,
-    /// A client's connection was accepted.
-    Connection,
-    /// One connection more than there may be was closed at once.
-    TurnedAway,
-    /// A message that is no query was dropped.
-    Dropped,
-}
 
 /// How many kinds of events there are.
 const EVENTS: usize = 12;
@@ -87,29 +58,16 @@ impl ProxyCounts {
         add_one(self.events.as_slice(), event as usize);
     }
 
-    /// Counts a message of a client: a query, or what is no query and is dropped (RFC 1035, section 4.1.1).
+    /// Counts a message of a client (`message_event`).
     pub fn count_message(&self, is_stream: bool, message: &[u8]) {
-        let event = match MessageRef::from_slice(message) {
-            Ok(message) if !message.header().qr() => {
-                if is_stream {
-                    ProxyEvent::QueryOverTcp
-                } else {
-                    ProxyEvent::QueryOverUdp
-                }
-            }
-            _ => ProxyEvent::Dropped,
-        };
-        self.count(event);
+        self.count(message_event(is_stream, message));
     }
 
-    /// Counts what a reply tells that is sent at once.
+    /// Counts a reply that is sent before an upstream is asked (`event_at_once`).
     pub fn count_at_once(&self, reply: &[u8]) {
         if let Ok(reply) = MessageRef::from_slice(reply) {
-            match at_once_of(&reply) {
-                AtOnce::Cached => self.count(ProxyEvent::Cached),
-                AtOnce::NoCookie => self.count(ProxyEvent::NoCookie),
-                AtOnce::Full => self.count(ProxyEvent::Full),
-                AtOnce::Own => {}
+            if let Some(event) = event_at_once(&reply) {
+                self.count(event);
             }
         }
     }

@@ -2,7 +2,8 @@
 //!
 //! - `ProxyCounts` are the counts, which threads share: each `ProxyEvent`, replies by response code, and how many replies the cache
 //!   has. `report` gives them as lines, `families_of` as metrics.
-//! - `at_once_of` says what a reply tells that is sent at once: it is out of the cache, or the layers or a limit refuse.
+//! - `message_event` says what a client's message is: a query, or dropped. `event_at_once` says what a reply tells that is sent
+//!   before an upstream is asked: it is out of the cache, or the layers or a limit refuse.
 //! - `Watch` has the control socket and the page, each served in a thread. `is_stopping` says whether the proxy is to end, and `end`
 //!   tells who asked for it that it has ended.
 //!
@@ -17,7 +18,8 @@
 //!
 //! # What is proved
 //!
-//! - What a reply tells that is sent at once is read of its header alone (`Replies`).
+//! - A message is counted as a query exactly where it has a header without QR, and what a reply tells is read of its header alone
+//!   (`Events`).
 //! - Each word but `status` and `stop` is no order.
 //!
 //! # What a body could still get away with
@@ -26,15 +28,15 @@
 #![tactic(auto)]
 
 mod counts;
+mod events;
 mod lines;
 mod listing;
 mod orders;
-mod replies;
 mod watch;
 
-pub use counts::{ProxyCounts, ProxyEvent};
+pub use counts::ProxyCounts;
+pub use events::{ProxyEvent, event_at_once, message_event};
 pub use lines::report;
 pub use listing::families_of;
 pub use orders::{StatusOrder, order_of};
-pub use replies::{AtOnce, at_once_of};
 pub use watch::Watch;

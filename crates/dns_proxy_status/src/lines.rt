@@ -1,6 +1,7 @@
 //! Counts as lines.
 
-use crate::counts::{ProxyCounts, ProxyEvent};
+use crate::counts::ProxyCounts;
+use crate::events::ProxyEvent;
 use std::alloc::{AllocError, Global};
 use std::fmt::Write;
 

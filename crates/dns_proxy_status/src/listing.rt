@@ -1,6 +1,7 @@
 //! Counts as metrics.
 
-use crate::counts::{ProxyCounts, ProxyEvent};
+use crate::counts::ProxyCounts;
+use crate::events::ProxyEvent;
 use crate::lines::code_name;
 use dns_metrics::{Family, Label, MetricError, MetricKind};
 use std::alloc::Global;

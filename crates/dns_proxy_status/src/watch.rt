@@ -20,11 +20,10 @@ use std::time::{Duration, Instant};
 /// How often it is looked whether something is asked.
 const LOOK_MILLIS: u64 = 50;
 
-/// How far a proxy is: it is to end, a fault ended it, and it has ended.
+/// How far a proxy is: it is to end, and it has ended.
 #[derive(Drop)]
 struct Phase {
     is_stopping: AtomicBool,
-    has_failed: AtomicBool,
     has_ended: AtomicBool,
 }
 
@@ -98,20 +97,24 @@ impl<R: Clock + Drop> Hearing<R> {
             let _ = self.obey(caller);
         }
     }
+}
 
+/// What a thread leaves that heard orders: the socket, and who asked for the end.
+#[derive(Drop)]
+struct Heard {
+    control: Control,
+    stoppers: Vec<Caller>,
+}
+
+impl Heard {
     /// Removes the socket. It tells those who asked for the end that it has come, and whether a fault did.
-    fn end<F: Files>(self, rt: &F) {
-        let Hearing {
-            control,
-            phase,
-            stoppers,
-            ..
-        } = self;
+    fn end<F: Files>(self, rt: &F, is_without_fault: bool) {
+        let Heard { control, stoppers } = self;
         control.remove(rt);
-        let said = if phase.has_failed.load(Ordering::SeqCst) {
-            "ended with a fault\n"
-        } else {
+        let said = if is_without_fault {
             "ok\n"
+        } else {
+            "ended with a fault\n"
         };
         for caller in stoppers {
             let mut caller = caller;
@@ -120,9 +123,9 @@ impl<R: Clock + Drop> Hearing<R> {
     }
 }
 
-impl<R: Clock + Files + Wait + Copy> Hearing<R> {
+impl<R: Clock + Wait + Copy> Hearing<R> {
     /// Does what callers ask, until the proxy has ended.
-    fn run(self, machine: R) {
+    fn run(self, machine: R) -> Heard {
         let mut hearing = self;
         for _ in machine.forever() {
             if hearing.phase.has_ended.load(Ordering::SeqCst) {
@@ -131,7 +134,12 @@ impl<R: Clock + Files + Wait + Copy> Hearing<R> {
             hearing.obey_next();
             thread::sleep(&machine, Duration::from_millis(LOOK_MILLIS));
         }
-        hearing.end(&machine);
+        let Hearing {
+            control,
+            stoppers,
+            ..
+        } = hearing;
+        Heard { control, stoppers }
     }
 }
 
@@ -139,7 +147,7 @@ impl<R: Clock + Files + Wait + Copy> Hearing<R> {
 #[derive(Drop)]
 pub struct Watch {
     phase: Arc<Phase>,
-    hearing: Option<JoinHandle<()>>,
+    hearing: Option<JoinHandle<Heard>>,
     endpoint: Option<Endpoint>,
 }
 
@@ -148,7 +156,6 @@ impl Watch {
     pub fn new(alloc: Global) -> io::Result<Watch> {
         let phase = Phase {
             is_stopping: AtomicBool::new(false),
-            has_failed: AtomicBool::new(false),
             has_ended: AtomicBool::new(false),
         };
         let phase = Arc::new(alloc, phase)?;
@@ -177,7 +184,7 @@ impl Watch {
     }
 
     /// Hears orders at a control socket. The waker is woken where the proxy is to end.
-    pub fn hear<R: Files + Clock + Threads + Wait + Copy + Send + Sync + 'static>(
+    pub fn hear<R: Clock + Threads + Wait + Copy + Send + Sync + 'static>(
         &mut self,
         machine: R,
         alloc: Global,
@@ -203,7 +210,7 @@ impl Watch {
     }
 
     /// The proxy has ended. Both threads are ended and waited for, and who asked for the end is told whether a fault did.
-    pub fn end<T: Threads>(self, rt: &T, is_without_fault: bool) {
+    pub fn end<R: Threads + Files>(self, rt: &R, is_without_fault: bool) {
         let Watch {
             phase,
             hearing,
@@ -212,10 +219,9 @@ impl Watch {
         if let Some(endpoint) = endpoint {
             let _ = endpoint.shutdown(rt);
         }
-        phase.has_failed.store(!is_without_fault, Ordering::SeqCst);
         phase.has_ended.store(true, Ordering::SeqCst);
         if let Some(hearing) = hearing {
-            hearing.join(rt);
+            hearing.join(rt).end(rt, is_without_fault);
         }
     }
 }
