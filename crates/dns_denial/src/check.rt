@@ -10,7 +10,7 @@ ghost use Rattle.dns_denial.specs.Checks.{AreLinked, Breaks, IsUnlinked, StandsA
 use crate::chain_error::ChainError;
 use crate::nsec::Nsec;
 use crate::search::last_of;
-use crate::standing::{Standing, standing_of};
+use crate::standing::{Standing, standing_behind, standing_of};
 use crate::types::{has_type, is_deniable, must_have};
 use dns_base::Record;
 use dns_name::{Name, OutOfMemory};
@@ -41,22 +41,22 @@ fn is_unlisted(
     alloc: Global,
     nsecs: &[Nsec],
     resource: &Record,
+    standing: &Standing<'_>,
 ) -> Result<bool, OutOfMemory>
-    requires zone { tree_error zone.now.apex zone.now.records ≡ None }
+    requires stands { StandsAt zone.now resource.now.owner standing.now }
     requires sorted { AreSorted nsecs.now }
     ensures { IfOk result (λ b. b ≡ is_unlisted zone.now nsecs.now resource.now) }
 {
-    let standing = standing_of(zone, alloc, &resource.owner)?;
-    if !must_have(zone, &resource.owner, &standing) {
+    if !must_have(zone, &resource.owner, standing) {
         return Ok(false);
     }
     match last_of(nsecs, alloc, &resource.owner.for_ref())? {
-        Some(nsec) => Ok(!lists_record(zone, resource, &standing, nsec)),
+        Some(nsec) => Ok(!lists_record(zone, resource, standing, nsec)),
         None => Ok(true),
     }
 }
 
-/// The place of the first record that no NSEC lists.
+/// The place of the first record that no NSEC lists. A walk is made to the owner of each that isn't the owner of the one before.
 fn first_unlisted(
     zone: &ZoneTree,
     alloc: Global,
@@ -67,8 +67,12 @@ fn first_unlisted(
     requires sorted { AreSorted nsecs.now }
     ensures { IfOk result (λ p. p ≡ position (is_unlisted zone.now nsecs.now) records.now) }
 {
+    let mut owner = zone.apex();
+    let mut standing = standing_of(zone, alloc, owner)?;
     'each: for (index, resource) in records.iter().enumerate() {
-        if is_unlisted(zone, alloc, nsecs, resource)? {
+        standing = standing_behind(zone, alloc, owner, standing, &resource.owner)?;
+        owner = &resource.owner;
+        if is_unlisted(zone, alloc, nsecs, resource, &standing)? {
             return Ok(Some(index));
         }
     }
