@@ -1,14 +1,14 @@
 //! Places of the records of one name, with their types.
 
-ghost use Rattle.std.specs.Prelude.{◌≡◌, ◌<◌, ◌++◌, ◌∷◌, [], length, IfOk, IfSome, OnOk, MatchBool, MatchOption};
+ghost use Rattle.std.specs.Prelude.{◌≡◌, ◌<◌, ◌++◌, ◌||◌, ◌∷◌, [], length, IfOk, IfSome, OnOk, MatchBool, MatchOption};
 ghost use Rattle.std.specs.List.{count_by, list_any, slice_get};
 ghost use Rattle.std.specs.Option.{option_copied};
 ghost use Rattle.dns_base.specs.Records.{IsLawful};
 ghost use Rattle.dns_zone.specs.Owned.{AreLawful};
 ghost use Rattle.dns_zone.specs.Places.{at_places};
-ghost use Rattle.dns_zone_tree.specs.Kinds.{is_kind, kind_places, places_of};
+ghost use Rattle.dns_zone_tree.specs.TypedPlaces.{is_kind, places_of};
 
-use dns_base::Record;
+use dns_base::{Record, Rtype};
 use dns_name::OutOfMemory;
 use smallvec::SmallVec;
 use std::alloc::Global;
@@ -68,19 +68,36 @@ impl TypedPlace {
     }
 }
 
-/// The places of the records of a name, with their types, in the order of the list. Up to two of them lie in the value.
+/// Whether one of some places and one more is of a type.
+fn is_any_of(before: bool, kind: &TypedPlace, rtype: Rtype) -> bool
+    ensures { result ≡ (before || is_kind rtype kind.now) }
+{
+    before || kind.is_of(rtype.to_int())
+}
+
+/// The places of the records of a name, with their types, in the order of the list. Up to two of them lie in the value. Each walk past
+/// the name asks whether there are NS and DNAME records, so that is kept.
 #[derive(Drop)]
 pub struct Kinds {
     places: SmallVec<TypedPlace, 2>,
+    has_servers: bool,
+    has_dname: bool,
+    ghost servers: { has_servers ≡ list_any (is_kind 2) places.items },
+    ghost dname: { has_dname ≡ list_any (is_kind 39) places.items },
 }
 
 impl Kinds {
+    ghost use Rattle.dns_zone_tree.specs.Kinds.{kind_places};
+
     /// No places.
     pub(crate) fn new(alloc: Global) -> Kinds
         ensures { result.places.items ≡ [] }
     {
-        let places = SmallVec::new(alloc);
-        Kinds { places }
+        Kinds {
+            places: SmallVec::new(alloc),
+            has_servers: false,
+            has_dname: false,
+        }
     }
 
     /// A copy.
@@ -88,7 +105,11 @@ impl Kinds {
         ensures { IfOk result (λ m. m.places.items ≡ self.now.places.items) }
     {
         let places = SmallVec::from_slice(alloc, self.as_slice())?;
-        Ok(Kinds { places })
+        Ok(Kinds {
+            places,
+            has_servers: self.has_servers,
+            has_dname: self.has_dname,
+        })
     }
 
     /// Keeps a place behind the others.
@@ -96,6 +117,8 @@ impl Kinds {
         ensures { OnOk result (self.new.places.items ≡ self.old.places.items ++ kind ∷ []) }
     {
         self.places.push(kind)?;
+        self.has_servers = is_any_of(self.has_servers, &kind, Rtype::NS);
+        self.has_dname = is_any_of(self.has_dname, &kind, Rtype::DNAME);
         Ok(())
     }
 
@@ -110,6 +133,12 @@ impl Kinds {
     pub fn has(&self, rtype: u16) -> bool
         ensures { MatchBool result (0 < length (kind_places rtype self.now)) (kind_places rtype self.now ≡ []) }
     {
+        if rtype == Rtype::NS.to_int() {
+            return self.has_servers;
+        }
+        if rtype == Rtype::DNAME.to_int() {
+            return self.has_dname;
+        }
         has_kind(self.as_slice(), rtype)
     }
 
