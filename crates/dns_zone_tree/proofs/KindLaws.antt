@@ -4,7 +4,6 @@ use Rattle.std.specs.Prelude.{◌||◌, IfSome, MatchBool, MatchOption, Option, 
 use Rattle.std.specs.List.{cons_option, count_by, filter, list_any, slice_get}
 use Rattle.std.specs.Option.{option_copied}
 use Rattle.std.proofs.lemmas.List.{drop_more, length-map, take_more}
-use Rattle.std.proofs.lemmas.List.Folds.{list_any-append}
 use Rattle.std.proofs.lemmas.List.Sums.{length-filter}
 use Rattle.dns_base.specs.Records.{IsLawful}
 use Rattle.dns_message.specs.declared.record.Record.{Record}
@@ -41,10 +40,6 @@ no_place t k e = ap (λ (b : Bool). map place_of (cond b (k ∷ []) [])) e
 
 -- ---- whether there is one
 
-or_false : (b : Bool) → (b || false) ≡ b
-or_false true = refl
-or_false false = refl
-
 some_step : (b c : Bool) (k : TypedPlace) (ks : List TypedPlace) → (c ≡ true → 0 < length (map place_of ks)) → (b || c) ≡ true → 0 < length (map place_of (cond b (k ∷ ks) ks))
 some_step true c k ks ih h = omega arith
 some_step false c k ks ih h = ih h
@@ -67,12 +62,6 @@ kinds_any t ks false e = kinds_none t ks (sym e)
 
 pub kinds_count : (t : ℕ) (ks : List TypedPlace) → count_by (is_kind t) ks ≡ length (places_of t ks)
 kinds_count t ks = sym (length-filter (is_kind t) ks) ∙ sym (length-map (filter (is_kind t) ks) place_of)
-
--- one place more
-pub kinds_push : (t : ℕ) (ks ms : List TypedPlace) (k : TypedPlace) (before after : Bool) → before ≡ list_any (is_kind t) ks → after ≡ (before || is_kind t k) → ms ≡ ks ++ k ∷ [] → after ≡ list_any (is_kind t) ms
-kinds_push t ks ms k before after was is more =
-    let one : list_any (is_kind t) (k ∷ []) ≡ is_kind t k = or_false (is_kind t k) in
-    is ∙ (ap (λ (b : Bool). b || is_kind t k) was ∙ (ap (λ (b : Bool). list_any (is_kind t) ks || b) (sym one) ∙ (sym (list_any-append (is_kind t) ks (k ∷ [])) ∙ ap (list_any (is_kind t)) (sym more))))
 
 -- what a test that was passed says, or one that wasn't
 pub at_true : (P Q : Type 0) (b : Bool) → MatchBool b P Q → b ≡ true → P

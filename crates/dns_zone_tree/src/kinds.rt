@@ -1,6 +1,6 @@
 //! Places of the records of one name, with their types.
 
-ghost use Rattle.std.specs.Prelude.{◌≡◌, ◌<◌, ◌++◌, ◌||◌, ◌∷◌, [], length, IfOk, IfSome, OnOk, MatchBool, MatchOption};
+ghost use Rattle.std.specs.Prelude.{◌≡◌, ◌<◌, ◌++◌, ◌∷◌, [], length, IfOk, IfSome, OnOk, MatchBool, MatchOption};
 ghost use Rattle.std.specs.List.{count_by, list_any, slice_get};
 ghost use Rattle.std.specs.Option.{option_copied};
 ghost use Rattle.dns_base.specs.Records.{IsLawful};
@@ -8,9 +8,9 @@ ghost use Rattle.dns_zone.specs.Owned.{AreLawful};
 ghost use Rattle.dns_zone.specs.Places.{at_places};
 ghost use Rattle.dns_zone_tree.specs.TypedPlaces.{is_kind, places_of};
 
+use crate::places::Places;
 use dns_base::{Record, Rtype};
 use dns_name::OutOfMemory;
-use smallvec::SmallVec;
 use std::alloc::Global;
 
 /// The type that asks for any (RFC 1035, section 3.2.3).
@@ -39,7 +39,7 @@ impl TypedPlace {
     }
 
     /// Whether the record has a type; type 255 asks for any.
-    fn is_of(&self, rtype: u16) -> bool
+    pub(crate) fn is_of(&self, rtype: u16) -> bool
         ensures { result ≡ is_kind rtype self.now }
     {
         rtype == ANY || self.rtype == rtype
@@ -68,35 +68,21 @@ impl TypedPlace {
     }
 }
 
-/// Whether one of some places and one more is of a type.
-fn is_any_of(before: bool, kind: &TypedPlace, rtype: Rtype) -> bool
-    ensures { result ≡ (before || is_kind rtype kind.now) }
-{
-    before || kind.is_of(rtype.to_int())
-}
-
-/// The places of the records of a name, with their types, in the order of the list. Up to two of them lie in the value. Each walk past
-/// the name asks whether there are NS and DNAME records, so that is kept.
+/// The places of the records of a name, with their types, in the order of the list.
 #[derive(Drop)]
 pub struct Kinds {
-    places: SmallVec<TypedPlace, 2>,
-    has_servers: bool,
-    has_dname: bool,
-    ghost servers: { has_servers ≡ list_any (is_kind 2) places.items },
-    ghost dname: { has_dname ≡ list_any (is_kind 39) places.items },
+    places: Places,
 }
 
 impl Kinds {
     ghost use Rattle.dns_zone_tree.specs.Kinds.{kind_places};
 
     /// No places.
-    pub(crate) fn new(alloc: Global) -> Kinds
+    pub(crate) fn new() -> Kinds
         ensures { result.places.items ≡ [] }
     {
         Kinds {
-            places: SmallVec::new(alloc),
-            has_servers: false,
-            has_dname: false,
+            places: Places::new(),
         }
     }
 
@@ -104,22 +90,15 @@ impl Kinds {
     pub(crate) fn try_clone(&self, alloc: Global) -> Result<Kinds, OutOfMemory>
         ensures { IfOk result (λ m. m.places.items ≡ self.now.places.items) }
     {
-        let places = SmallVec::from_slice(alloc, self.as_slice())?;
-        Ok(Kinds {
-            places,
-            has_servers: self.has_servers,
-            has_dname: self.has_dname,
-        })
+        let places = self.places.try_clone(alloc)?;
+        Ok(Kinds { places })
     }
 
     /// Keeps a place behind the others.
-    pub(crate) fn push(&mut self, kind: TypedPlace) -> Result<(), OutOfMemory>
+    pub(crate) fn push(&mut self, alloc: Global, kind: TypedPlace) -> Result<(), OutOfMemory>
         ensures { OnOk result (self.new.places.items ≡ self.old.places.items ++ kind ∷ []) }
     {
-        self.places.push(kind)?;
-        self.has_servers = is_any_of(self.has_servers, &kind, Rtype::NS);
-        self.has_dname = is_any_of(self.has_dname, &kind, Rtype::DNAME);
-        Ok(())
+        self.places.push(alloc, kind)
     }
 
     /// All places, in order.
@@ -134,10 +113,10 @@ impl Kinds {
         ensures { MatchBool result (0 < length (kind_places rtype self.now)) (kind_places rtype self.now ≡ []) }
     {
         if rtype == Rtype::NS.to_int() {
-            return self.has_servers;
+            return self.places.has_servers();
         }
         if rtype == Rtype::DNAME.to_int() {
-            return self.has_dname;
+            return self.places.has_dname();
         }
         has_kind(self.as_slice(), rtype)
     }

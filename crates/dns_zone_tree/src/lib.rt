@@ -42,6 +42,7 @@ mod keys;
 mod kinds;
 mod listing;
 mod names;
+mod places;
 mod walk;
 mod zone_tree;
 

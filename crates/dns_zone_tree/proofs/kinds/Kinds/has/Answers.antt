@@ -9,13 +9,13 @@ pub returns-then-rtype-to_int : goal.returns-then-rtype-to_int
 returns-then-rtype-to_int c =
     let m = c.args.self.now in
     let asked : c.args.rtype ≡ 2 = c.if-rtype-to_int.true ∙ c.to_int.ensures.value in
-    kinds_any c.args.rtype m.places.items m.has_servers (m.servers ∙ ap (λ (t : ℕ). list_any (is_kind t) m.places.items) (sym asked))
+    kinds_any c.args.rtype m.places.items c.has_servers.result (c.has_servers.ensures ∙ ap (λ (t : ℕ). list_any (is_kind t) m.places.items) (sym asked))
 
 pub returns-then-rtype-to_int-2 : goal.returns-then-rtype-to_int-2
 returns-then-rtype-to_int-2 c =
     let m = c.args.self.now in
     let asked : c.args.rtype ≡ 39 = c.if-rtype-to_int-2.true ∙ c.to_int-2.ensures.value in
-    kinds_any c.args.rtype m.places.items m.has_dname (m.dname ∙ ap (λ (t : ℕ). list_any (is_kind t) m.places.items) (sym asked))
+    kinds_any c.args.rtype m.places.items c.has_dname.result (c.has_dname.ensures ∙ ap (λ (t : ℕ). list_any (is_kind t) m.places.items) (sym asked))
 
 pub returns : goal.returns
 returns c = kinds_any c.args.rtype c.args.self.now.places.items c.has_kind.result (c.has_kind.ensures ∙ ap (λ (ks : List TypedPlace). list_any (is_kind c.args.rtype) ks) c.as_slice.ensures)
