@@ -17,11 +17,14 @@ use Rattle.dns_zone_tree.specs.TreeErrors.{tree_error}
 use Rattle.dns_zone_tree.specs.Walks.{ReachesNode}
 use Rattle.dns_zone_tree.specs.declared.kinds.Kinds.{Kinds}
 use Rattle.dns_denial.specs.Chains.{has_type, is_below_cut, is_record_at, must_have}
-use Rattle.dns_denial.specs.Checks.{IsHeld, is_kept, is_placed}
+use Rattle.dns_denial.specs.Checks.{IsHeld, StandsAt, is_kept, is_placed}
+use Rattle.dns_denial.specs.declared.standing.Standing.{Standing}
+use Rattle.dns_denial.specs.declared.standing.Standing.TheVariants.{Held, BelowCut as BelowACut, Unknown}
 use Rattle.dns_denial.proofs.ChainLaws.{cut_of}
 use Rattle.dns_denial.proofs.ListLaws.{found, present}
 use Rattle.dns_denial.proofs.NameLaws.{same_back, same_ends, same_trans}
 use Rattle.dns_denial.proofs.RegionLaws.{asked_below, reached}
+use Rattle.dns_denial.proofs.SameLaws.{below_as}
 use Rattle.dns_denial.proofs.StartLaws.{starts}
 
 -- ---- what a walk ends at
@@ -118,3 +121,27 @@ module _ (z : ZoneState) (name : List (List ℕ)) (m : Kinds) (h : IsHeld z name
   held_has t n =
       let c : (is_placed 2 m && not (same_name name z.apex)) ≡ is_cut_off z name = ap (λ (b : Bool). b && not (same_name name z.apex)) (held_type 2 (other 2 refl)) ∙ sym held_cut in
       λ i. held_type t n i && (not (c i) || (nat_eq t 2 || nat_eq t 43))
+
+-- ---- the same name stands as it does
+
+module _ (z : ZoneState) (a b : List (List ℕ)) (e : same_name a b ≡ true) where
+  owned_same : (r : Record) → is_owned a r ≡ is_owned b r
+  owned_same r = both_ways (same_name r.owner a) (same_name r.owner b) (λ k. same_trans r.owner a b k e) (λ k. same_trans r.owner b a k (same_back a b e))
+
+  asked_same : (t : ℕ) (r : Record) → is_asked a t r ≡ is_asked b t r
+  asked_same t r = ap (λ (o : Bool). o && (nat_eq t 255 || is_of t r)) (owned_same r)
+
+  below_same : is_below_cut z a ≡ is_below_cut z b
+  below_same = both_ways (is_below_cut z a) (is_below_cut z b) (below_as z a b e) (below_as z b a (same_back a b e))
+
+places_agree : (p q : Record → Bool) → ((r : Record) → p r ≡ q r) → (i : ℕ) (rs : List Record) → places_from p i rs ≡ places_from q i rs
+places_agree p q e i [] = refl
+places_agree p q e i (r ∷ rs) = λ k. if e r k then i ∷ places_agree p q e (suc i) rs k else places_agree p q e (suc i) rs k
+
+pub stands_as : (z : ZoneState) (a b : List (List ℕ)) (s : Standing) → same_name a b ≡ true → StandsAt z a s → StandsAt z b s
+stands_as z a b (Held m) e h = record {
+  uncut = sym (below_same z a b e) ∙ h.uncut;
+  kept = λ t. h.kept t ∙ places_agree (is_asked a t) (is_asked b t) (asked_same z a b e t) 0 z.records;
+}
+stands_as z a b BelowACut e h = sym (below_same z a b e) ∙ h
+stands_as z a b Unknown e h = tt

@@ -138,17 +138,12 @@ module _ (z : ZoneState) (ns : List NsecState) (sorted : AreSorted ns) (w : IsWh
       let p = and_parts (must_have z f.one.owner) (not (list_any (lists_record z f.one) ns)) f.passes in
       absurd (true≢false (sym (all_listed f.one p.0) ∙ not-true (list_any (lists_record z f.one) ns) p.1))
   unbroken (Unfounded i) h =
-      let f = found (is_unfounded z) ns (some_place (is_unfounded z) i ns h) in
+      let f = found (is_unfounded z) ns (some_place (is_unfounded z) i ns h.1) in
       absurd (true≢false (sym (and_from (must_have z f.one.owner) (list_all (is_there z f.one) f.one.types) (w.chain.owed f.one f.there) (all_there f.one f.there)) ∙ not-true (must_have z f.one.owner && list_all (is_there z f.one) f.one.types) f.passes))
   unbroken (Unlinked i) h =
       let d : NsecState = record { owner = []; next = []; types = [] } in
-      absurd (true≢false (sym (all_linked z ns (starts z w.zone) sorted w.chain i d h.within h.within) ∙ h.apart d))
+      absurd (true≢false (sym (all_linked z ns (starts z w.zone) sorted w.chain i d h.2.within h.2.within) ∙ h.2.apart d))
   unbroken NoMemory h = refl
 
 pub break_nowhere : WholeChainsBreakNowhere
 break_nowhere z ns e sorted w h = unbroken z ns sorted w e h
-
--- what a check gives where it refuses nothing
-pub and_so : {A E : Type 0} (P Q : A → Type 0) (F : E → Type 0) (r : Result A E) → MatchResult r P F → ((x : A) → P x → Q x) → MatchResult r Q F
-and_so P Q F (Ok x) h f = f x h
-and_so P Q F (Err e) h f = h

@@ -77,17 +77,12 @@ pub record IsUnlinked (apex : List (List ℕ)) (ns : List NsecState) (k : ℕ) :
   pub first : AreLinked apex ns k
   pub apart : (d : NsecState) → same_name (slice_index_or ns k d).next (owner_behind apex ns k d) ≡ false
 
--- no NSEC is unfounded, and each points to the next
-pub record AreSound (z : ZoneState) (ns : List NsecState) : Type 0 where
-  pub founded : position (is_unfounded z) ns ≡ None
-  pub linked : AreLinked z.apex ns (length ns)
-
--- ---- where a chain isn't whole
+-- ---- where a chain isn't whole: records come first, then NSECs, then their order
 
 abbrev pub Breaks : ZoneState → List NsecState → ChainError → Type 0
 Breaks z ns (Unlisted i) = position (is_unlisted z ns) z.records ≡ Some i
-Breaks z ns (Unfounded i) = position (is_unfounded z) ns ≡ Some i
-Breaks z ns (Unlinked i) = IsUnlinked z.apex ns i
+Breaks z ns (Unfounded i) = (position (is_unlisted z ns) z.records ≡ None) × (position (is_unfounded z) ns ≡ Some i)
+Breaks z ns (Unlinked i) = (position (is_unlisted z ns) z.records ≡ None) × (position (is_unfounded z) ns ≡ None) × IsUnlinked z.apex ns i
 Breaks z ns NoMemory = Unit {0}
 
 -- a chain that is whole breaks nowhere

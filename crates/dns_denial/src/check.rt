@@ -5,12 +5,12 @@ ghost use Rattle.std.specs.List.{list_all, position};
 ghost use Rattle.dns_zone_tree.specs.TreeErrors.{tree_error};
 ghost use Rattle.dns_denial.specs.Nsecs.{AreSorted, NsecState};
 ghost use Rattle.dns_denial.specs.Chains.{IsChained, has_type, is_deniable, must_have};
-ghost use Rattle.dns_denial.specs.Checks.{AreLinked, AreSound, Breaks, IsUnlinked, StandsAt, is_there, is_unfounded, is_unlisted, lists_record, owner_behind};
+ghost use Rattle.dns_denial.specs.Checks.{AreLinked, Breaks, IsUnlinked, StandsAt, is_there, is_unfounded, is_unlisted, lists_record, owner_behind};
 
 use crate::chain_error::ChainError;
 use crate::nsec::Nsec;
 use crate::search::last_of;
-use crate::standing::{Standing, standing_of};
+use crate::standing::{Standing, standing_behind, standing_of};
 use crate::types::{has_type, is_deniable, must_have};
 use dns_base::Record;
 use dns_name::{Name, OutOfMemory};
@@ -41,22 +41,22 @@ fn is_unlisted(
     alloc: Global,
     nsecs: &[Nsec],
     resource: &Record,
+    standing: &Standing<'_>,
 ) -> Result<bool, OutOfMemory>
-    requires zone { tree_error zone.now.apex zone.now.records ≡ None }
+    requires stands { StandsAt zone.now resource.now.owner standing.now }
     requires sorted { AreSorted nsecs.now }
     ensures { IfOk result (λ b. b ≡ is_unlisted zone.now nsecs.now resource.now) }
 {
-    let standing = standing_of(zone, alloc, &resource.owner)?;
-    if !must_have(zone, &resource.owner, &standing) {
+    if !must_have(zone, &resource.owner, standing) {
         return Ok(false);
     }
     match last_of(nsecs, alloc, &resource.owner.for_ref())? {
-        Some(nsec) => Ok(!lists_record(zone, resource, &standing, nsec)),
+        Some(nsec) => Ok(!lists_record(zone, resource, standing, nsec)),
         None => Ok(true),
     }
 }
 
-/// The place of the first record that no NSEC lists.
+/// The place of the first record that no NSEC lists. A walk is made to the owner of each that isn't the owner of the one before.
 fn first_unlisted(
     zone: &ZoneTree,
     alloc: Global,
@@ -67,8 +67,12 @@ fn first_unlisted(
     requires sorted { AreSorted nsecs.now }
     ensures { IfOk result (λ p. p ≡ position (is_unlisted zone.now nsecs.now) records.now) }
 {
+    let mut owner = zone.apex();
+    let mut standing = standing_of(zone, alloc, owner)?;
     'each: for (index, resource) in records.iter().enumerate() {
-        if is_unlisted(zone, alloc, nsecs, resource)? {
+        standing = standing_behind(zone, alloc, owner, standing, &resource.owner)?;
+        owner = &resource.owner;
+        if is_unlisted(zone, alloc, nsecs, resource, &standing)? {
             return Ok(Some(index));
         }
     }
@@ -162,35 +166,20 @@ fn first_unlinked(apex: &Name, nsecs: &[Nsec]) -> Option<usize>
     None
 }
 
-/// Refuses NSECs of which one doesn't point to the one behind it.
-fn check_links(zone: &ZoneTree, nsecs: &[Nsec]) -> Result<(), ChainError>
-    ensures { MatchResult result (λ _. AreLinked zone.now.apex nsecs.now (length nsecs.now)) (λ e. Breaks zone.now nsecs.now e) }
-{
-    match first_unlinked(zone.apex(), nsecs) {
-        Some(place) => Err(ChainError::Unlinked(place)),
-        None => Ok(()),
-    }
-}
-
-/// Refuses NSECs of which one is unfounded, or doesn't point to the one behind it.
-fn check_nsecs(zone: &ZoneTree, alloc: Global, nsecs: &[Nsec]) -> Result<(), ChainError>
-    requires { tree_error zone.now.apex zone.now.records ≡ None }
-    ensures { MatchResult result (λ _. AreSound zone.now nsecs.now) (λ e. Breaks zone.now nsecs.now e) }
-{
-    match first_unfounded(zone, alloc, nsecs)? {
-        Some(index) => Err(ChainError::Unfounded(index)),
-        None => check_links(zone, nsecs),
-    }
-}
-
 /// Decides whether the chain of a zone is whole.
 pub(crate) fn checked(zone: &ZoneTree, alloc: Global, nsecs: &[Nsec]) -> Result<(), ChainError>
     requires zone { tree_error zone.now.apex zone.now.records ≡ None }
     requires sorted { AreSorted nsecs.now }
     ensures { MatchResult result (λ _. IsChained zone.now nsecs.now) (λ e. Breaks zone.now nsecs.now e) }
 {
-    match first_unlisted(zone, alloc, nsecs, zone.records())? {
-        Some(index) => Err(ChainError::Unlisted(index)),
-        None => check_nsecs(zone, alloc, nsecs),
+    if let Some(index) = first_unlisted(zone, alloc, nsecs, zone.records())? {
+        return Err(ChainError::Unlisted(index));
+    }
+    if let Some(index) = first_unfounded(zone, alloc, nsecs)? {
+        return Err(ChainError::Unfounded(index));
+    }
+    match first_unlinked(zone.apex(), nsecs) {
+        Some(place) => Err(ChainError::Unlinked(place)),
+        None => Ok(()),
     }
 }

@@ -27,16 +27,16 @@
 //!   of its names. The question isn't for RRSIG, NSEC or the DS of the apex.
 //! - So do three NSEC3s, with Opt-Out or without (`each_absence_is_proved3`). The hashes of the names that are looked for have to
 //!   be apart, and the chain to have a proof at all (`IsProvable`: a span with Opt-Out may leave out empty non-terminals).
-//! - `check` gives Ok exactly for a chain that is whole. Its error is the first record that no NSEC lists, the first NSEC that is
-//!   unfounded, or the first that points elsewhere. A whole chain breaks nowhere (`whole_chains_break_nowhere`).
+//! - `check` gives Ok exactly for a chain that is whole. Its error is the first record that no NSEC lists, else the first NSEC that
+//!   is unfounded, else the first that points elsewhere. A whole chain breaks nowhere (`whole_chains_break_nowhere`).
 //! - The NSEC3s of a `HashedDenial` are those of the names that its fields say (`each`).
 //! - `hash` is that of RFC 5155, section 5, over the SHA-1 of FIPS 180-4.
 //!
 //! # What a body could still get away with
 //!
-//! Which of several faults `check` says, and how many records it looks at. By reading the code it walks once for each record and
-//! once for each NSEC. Each walk passes over the places of the names on its way. Names below a DNAME record, of which a zone has
-//! none (RFC 6672, section 2.4), are looked for among all records.
+//! How many records `check` looks at. By reading the code it walks once for each NSEC, and for each record whose owner isn't that
+//! of the record before it. Names below a DNAME record, of which a zone has none (RFC 6672, section 2.4), are looked for among all
+//! records.
 //!
 //! `signed_reply` (`specs/Signed.antt`) is a definition that no function carries out yet.
 #![tactic(auto)]

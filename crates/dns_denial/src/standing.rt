@@ -13,7 +13,7 @@ use std::alloc::Global;
 const DS: u16 = 43;
 
 /// What a walk says of a name.
-#[derive(Drop)]
+#[derive(Clone, Copy)]
 pub(crate) enum Standing<'a> {
     /// The places of the records of a name that isn't below a cut.
     Held(&'a Kinds),
@@ -42,4 +42,22 @@ pub(crate) fn standing_of<'a>(
         Walk::Dname(_) => Ok(Standing::Unknown),
         Walk::Missing(_) => Ok(Standing::Unknown),
     }
+}
+
+/// Walks to a name, where it isn't that of which this is said.
+pub(crate) fn standing_behind<'a>(
+    zone: &'a ZoneTree,
+    alloc: Global,
+    before: &Name,
+    standing: Standing<'a>,
+    name: &Name,
+) -> Result<Standing<'a>, OutOfMemory>
+    requires zone { tree_error zone.now.apex zone.now.records ≡ None }
+    requires stands { StandsAt zone.now before.now standing }
+    ensures { IfOk result (StandsAt zone.now name.now) }
+{
+    if *before == *name {
+        return Ok(standing);
+    }
+    standing_of(zone, alloc, name)
 }

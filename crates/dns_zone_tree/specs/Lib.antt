@@ -3,6 +3,8 @@ pub use Rattle.dns_zone.specs.ZoneReply
 pub use Rattle.dns_zone.specs.ZoneErrors
 pub mod Wildcards
 pub mod Regions
+pub mod TypedPlaces
+pub mod Stored
 pub mod Kinds
 pub mod Long
 pub mod Nodes

@@ -118,17 +118,17 @@ impl Joining {
         ensures pending { IfOk result (λ j. j.pending.places.items ≡ []) }
     {
         let nodes = Vec::with_capacity(alloc, count)?;
-        let pending = Kinds::new(alloc);
+        let pending = Kinds::new();
         Ok(Joining { nodes, pending })
     }
 
     /// Makes the node of a key of the places that have none.
-    fn close(&mut self, alloc: Global, span: Span) -> Result<(), OutOfMemory>
+    fn close(&mut self, span: Span) -> Result<(), OutOfMemory>
         ensures nodes { OnOk result (self.new.nodes.items
             ≡ self.old.nodes.items ++ (record { span = span; kinds = self.old.pending }) ∷ []) }
         ensures pending { OnOk result (self.new.pending.places.items ≡ []) }
     {
-        let kinds = mem::replace(&mut self.pending, Kinds::new(alloc));
+        let kinds = mem::replace(&mut self.pending, Kinds::new());
         self.nodes.push(Node { span, kinds })?;
         Ok(())
     }
@@ -145,9 +145,9 @@ impl Joining {
             (first.now ∷ behind.now) → OnOk result (IsJoining octets.now all self.new.nodes.items self.new.pending.places.items
             behind.now) }
     {
-        self.pending.push(first.kind)?;
+        self.pending.push(alloc, first.kind)?;
         if is_last(octets, first.span, behind) {
-            return self.close(alloc, first.span);
+            return self.close(first.span);
         }
         Ok(())
     }
@@ -174,7 +174,7 @@ fn indexed(alloc: Global, keys: Keys) -> Result<Names, OutOfMemory>
     let Keys { octets, mut keyed } = keys;
     sort_keys(octets.as_slice(), &mut keyed)?;
     let nodes = joined(alloc, octets.as_slice(), keyed.as_slice())?;
-    let none = Kinds::new(alloc);
+    let none = Kinds::new();
     Ok(Names {
         octets,
         nodes,

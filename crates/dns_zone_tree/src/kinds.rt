@@ -6,11 +6,11 @@ ghost use Rattle.std.specs.Option.{option_copied};
 ghost use Rattle.dns_base.specs.Records.{IsLawful};
 ghost use Rattle.dns_zone.specs.Owned.{AreLawful};
 ghost use Rattle.dns_zone.specs.Places.{at_places};
-ghost use Rattle.dns_zone_tree.specs.Kinds.{is_kind, kind_places, places_of};
+ghost use Rattle.dns_zone_tree.specs.TypedPlaces.{is_kind, places_of};
 
-use dns_base::Record;
+use crate::places::Places;
+use dns_base::{Record, Rtype};
 use dns_name::OutOfMemory;
-use smallvec::SmallVec;
 use std::alloc::Global;
 
 /// The type that asks for any (RFC 1035, section 3.2.3).
@@ -39,7 +39,7 @@ impl TypedPlace {
     }
 
     /// Whether the record has a type; type 255 asks for any.
-    fn is_of(&self, rtype: u16) -> bool
+    pub(crate) fn is_of(&self, rtype: u16) -> bool
         ensures { result ≡ is_kind rtype self.now }
     {
         rtype == ANY || self.rtype == rtype
@@ -68,35 +68,37 @@ impl TypedPlace {
     }
 }
 
-/// The places of the records of a name, with their types, in the order of the list. Up to two of them lie in the value.
+/// The places of the records of a name, with their types, in the order of the list.
 #[derive(Drop)]
 pub struct Kinds {
-    places: SmallVec<TypedPlace, 2>,
+    places: Places,
 }
 
 impl Kinds {
+    ghost use Rattle.dns_zone_tree.specs.Kinds.{kind_places};
+
     /// No places.
-    pub(crate) fn new(alloc: Global) -> Kinds
+    pub(crate) fn new() -> Kinds
         ensures { result.places.items ≡ [] }
     {
-        let places = SmallVec::new(alloc);
-        Kinds { places }
+        Kinds {
+            places: Places::new(),
+        }
     }
 
     /// A copy.
     pub(crate) fn try_clone(&self, alloc: Global) -> Result<Kinds, OutOfMemory>
         ensures { IfOk result (λ m. m.places.items ≡ self.now.places.items) }
     {
-        let places = SmallVec::from_slice(alloc, self.as_slice())?;
+        let places = self.places.try_clone(alloc)?;
         Ok(Kinds { places })
     }
 
     /// Keeps a place behind the others.
-    pub(crate) fn push(&mut self, kind: TypedPlace) -> Result<(), OutOfMemory>
+    pub(crate) fn push(&mut self, alloc: Global, kind: TypedPlace) -> Result<(), OutOfMemory>
         ensures { OnOk result (self.new.places.items ≡ self.old.places.items ++ kind ∷ []) }
     {
-        self.places.push(kind)?;
-        Ok(())
+        self.places.push(alloc, kind)
     }
 
     /// All places, in order.
@@ -110,6 +112,12 @@ impl Kinds {
     pub fn has(&self, rtype: u16) -> bool
         ensures { MatchBool result (0 < length (kind_places rtype self.now)) (kind_places rtype self.now ≡ []) }
     {
+        if rtype == Rtype::NS.to_int() {
+            return self.places.has_servers();
+        }
+        if rtype == Rtype::DNAME.to_int() {
+            return self.places.has_dname();
+        }
         has_kind(self.as_slice(), rtype)
     }
 

@@ -32,7 +32,7 @@
 //! # What a body could still get away with
 //!
 //! How many names a walk looks up, and how much memory the tree takes. By reading the code a walk looks up one name for each label
-//! below the apex. It passes over the places of each of these names and of the apex.
+//! below the apex. Whether a name has NS or DNAME records is kept with its places.
 #![tactic(auto)]
 
 mod check;
@@ -42,6 +42,7 @@ mod keys;
 mod kinds;
 mod listing;
 mod names;
+mod places;
 mod walk;
 mod zone_tree;
 

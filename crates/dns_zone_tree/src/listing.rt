@@ -22,7 +22,7 @@ pub(crate) fn kinds_of(alloc: Global, names: &Names, name: &Name) -> Result<Kind
     let key = canonical_key(alloc, &name.for_ref())?;
     match names.kinds_at(key.as_slice()) {
         Some(kinds) => kinds.try_clone(alloc),
-        None => Ok(Kinds::new(alloc)),
+        None => Ok(Kinds::new()),
     }
 }
 
