@@ -1,9 +1,9 @@
 #!/usr/bin/env python3
 """Draws docs/layers.svg: the crates in groups, and an arrow from each group to those that it stands on.
 
-The arrows are read off crates.txt; one that follows from two others isn't drawn. Run it where a crate comes or goes.
-It ends with 1 where crates.txt has a library `dns_..` that isn't drawn, or the other way round, or an arrow that leads up. With
---look nothing is drawn, and the status is 1 too where the picture isn't that of the crates.
+The arrows are read off crates.txt; one that follows from two others isn't drawn. Run it when a crate comes or goes.
+It ends with 1 if crates.txt has a library `dns_..` that isn't drawn, or the other way round, or an arrow that leads up. With
+--look nothing is drawn, and the status is 1 too if the picture isn't that of the crates.
 """
 import os
 import re
@@ -44,7 +44,7 @@ def stands_on():
 
 
 def arrows(crates):
-    """The pairs of groups of which the first stands on the second, but for those that follow from others."""
+    """The pairs of groups of which the first stands on the second, except for those that follow from others."""
     home = {crate: group for group, it in enumerate(GROUPS) for crate in it[5].split()}
     pairs = {(home[a], home[b]) for a in crates for b in crates[a] if a in home and b in home and home[a] != home[b]}
     below = {group: {b for a, b in pairs if a == group} for group in range(len(GROUPS))}
@@ -56,7 +56,7 @@ def arrows(crates):
 
 
 def lines_of(crates, columns):
-    """The names of a group's crates, without their prefix, in lines that fit a box of so many columns."""
+    """The names of a group's crates, without their prefix, in lines that fit a box of that many columns."""
     lines, most = [""], int((columns * (COLUMN + GAP) - GAP) / 6.7)
     for crate in crates.split():
         word = crate.removeprefix("dns_")

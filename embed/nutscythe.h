@@ -1,7 +1,7 @@
 /* The parts of a DNS server for callers from C: the layers round a service, messages that are built and read, the connections
  * of a server over streams, and the book of their slots.
  *
- * Every call returns a status (enum nutscythe_status). A call that is refused leaves all as it was, but for what it says. No
+ * Every call returns a status (enum nutscythe_status). A call that is refused leaves all as it was, except for what it says. No
  * call waits, ends the process, starts a thread, looks at a clock or keeps a pointer that it was given. The page
  * docs/embedding.md says which proved clause stands behind each call, and what is trusted.
  *
@@ -263,7 +263,7 @@ static inline uint32_t nutscythe_settings_copy(nutscythe_settings *settings, nut
  * reply goes through nutscythe_rewrite with *rule (or nutscythe_refuse if it fails). NOTHING: the message is shorter than a
  * header, or a response.
  * refuses: NO_ROOM, and *reply_len says how many octets are needed; OUT_OF_RANGE for a family, an `over`, a size or a
- * verdict that isn't one; NO_MEMORY, NO_HANDLE, NULL_POINTER. Buffer, length and rule stay but for what is named. */
+ * verdict that isn't one; NO_MEMORY, NO_HANDLE, NULL_POINTER. Buffer, length and rule stay except for what is named. */
 static inline uint32_t nutscythe_decide(nutscythe_settings *settings, const nutscythe_origin *origin, uint32_t verdict,
                                         const uint8_t *message, size_t len, uint8_t *reply, size_t room, size_t *reply_len,
                                         nutscythe_rule *rule)
@@ -290,7 +290,7 @@ static inline uint32_t nutscythe_datagram(nutscythe_settings *settings, const nu
  * its OPT record the size, the DO bit, the client subnets and the extended errors.
  * gives: REPLY, and the first *reply_len octets of reply are to be sent.
  * refuses: NO_ROOM, and *reply_len says how many octets are needed; UNREADABLE, TOO_LONG, NO_MEMORY, NULL_POINTER. Buffer and
- * length stay but for what is named. */
+ * length stay except for what is named. */
 static inline uint32_t nutscythe_rewrite(const nutscythe_rule *rule, const uint8_t *answer, size_t len, uint8_t *reply,
                                          size_t room, size_t *reply_len)
 {
@@ -302,7 +302,7 @@ static inline uint32_t nutscythe_rewrite(const nutscythe_rule *rule, const uint8
  * takes: rcode, 1 for FORMERR, 2 for SERVFAIL, 4 for NOTIMP, 5 for REFUSED (RFC 1035, section 4.1.1).
  * gives: REPLY, and the first *reply_len octets of reply are to be sent.
  * refuses: NO_ROOM, and *reply_len says how many octets are needed; OUT_OF_RANGE for another rcode; UNREADABLE below 12
- * octets; NO_MEMORY, NULL_POINTER. Buffer and length stay but for what is named. */
+ * octets; NO_MEMORY, NULL_POINTER. Buffer and length stay except for what is named. */
 static inline uint32_t nutscythe_refuse(const nutscythe_rule *rule, const uint8_t *message, size_t len, uint32_t rcode,
                                         uint8_t *reply, size_t room, size_t *reply_len)
 {
@@ -338,7 +338,7 @@ static inline uint32_t nutscythe_reply_add(nutscythe_reply *reply, uint32_t sect
                                    data, nutscythe_len(data, len));
 }
 
-/* Adds an option of len octets behind those of the reply's OPT record (RFC 6891, section 6.1.1), which becomes its last
+/* Adds an option of len octets after those of the reply's OPT record (RFC 6891, section 6.1.1), which becomes its last
  * additional record; there is one from then on. The additional section is begun.
  * gives: DONE.
  * refuses: TOO_LONG if the options or the reply would be; OUT_OF_RANGE if the reply was written; NO_MEMORY, NO_HANDLE,
@@ -352,7 +352,7 @@ static inline uint32_t nutscythe_reply_option(nutscythe_reply *reply, uint16_t c
  * those octets.
  * gives: REPLY, and the first *octets_len octets are to be sent.
  * refuses: NO_ROOM, and *octets_len says how many octets are needed; NO_HANDLE, NULL_POINTER; NO_MEMORY, and the reply is
- * lost, so that each call says NO_MEMORY until it is begun anew. Buffer and length stay but for what is named. */
+ * lost, so that each call says NO_MEMORY until it is begun anew. Buffer and length stay except for what is named. */
 static inline uint32_t nutscythe_reply_write(nutscythe_reply *reply, const nutscythe_rule *rule, uint8_t *octets, size_t room,
                                              size_t *octets_len)
 {
@@ -417,7 +417,7 @@ static inline uint32_t nutscythe_connection_next(nutscythe_connection *connectio
                                          query_len != NULL);
 }
 
-/* Queues a reply of len octets behind those that wait, at a moment in ms. It is copied.
+/* Queues a reply of len octets after those that wait, at a moment in ms. It is copied.
  * gives: DONE. DROPPED: the queue is at its bound, the response budget is spent, or the connection is to be closed; nothing
  * is queued.
  * refuses: TOO_LONG above 65,535 octets; NO_MEMORY, NO_HANDLE, NULL_POINTER; nothing is queued. */

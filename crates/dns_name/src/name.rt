@@ -1,7 +1,7 @@
 //! Names that stand alone, uncompressed.
 
 ghost use Rattle.std.specs.Prelude.{◌≡◌, ◌≤◌, ◌+◌, ◌++◌, ◌↔◌, ◌-◌, [], ℕ, List, length, take, drop, Some, IsTrue, IfOk, OnOk, OnErr, ⊤};
-ghost use Rattle.dns_name.specs.Canonical.{name_cmp};
+ghost use Rattle.dns_name.specs.Canonical.{name_cmp, same_name};
 ghost use Rattle.dns_name.specs.FromText.{GivesName, text_name};
 ghost use Rattle.dns_name.specs.Labels.{IsName, EndsWith, folded, spell};
 ghost use Rattle.dns_name.specs.NameText.{name_text};
@@ -154,7 +154,8 @@ impl<'a> NameRef<'a> {
 
     /// Whether the names are the same up to ASCII case.
     pub fn name_eq(&self, other: &NameRef<'_>) -> bool
-        ensures { IsTrue result ↔ (folded self.now ≡ folded other.now) }
+        ensures equal { IsTrue result ↔ (folded self.now ≡ folded other.now) }
+        ensures same { result ≡ same_name self.now other.now }
     {
         self.as_slice().eq_ignore_ascii_case(other.as_slice())
     }
@@ -291,7 +292,8 @@ impl Name {
 
     /// Whether the names are the same up to ASCII case.
     pub fn name_eq(&self, other: &NameRef<'_>) -> bool
-        ensures { IsTrue result ↔ (folded self.now ≡ folded other.now) }
+        ensures equal { IsTrue result ↔ (folded self.now ≡ folded other.now) }
+        ensures same { result ≡ same_name self.now other.now }
     {
         self.for_ref().name_eq(other)
     }

@@ -182,7 +182,8 @@ impl<'a> ParsedName<'a> {
 
     /// Whether the names are the same up to ASCII case.
     pub fn name_eq(&self, other: &NameRef<'_>) -> bool
-        ensures { IsTrue result ↔ (folded self.now ≡ folded other.now) }
+        ensures equal { IsTrue result ↔ (folded self.now ≡ folded other.now) }
+        ensures same { result ≡ same_name self.now other.now }
     {
         same(self.labels(), other.labels())
     }

@@ -6,7 +6,6 @@ pub mod Called
 mod FirstRules
 mod Kept
 mod LinesBack
-pub mod Names
 mod NamesBack
 mod Padded
 mod Pends

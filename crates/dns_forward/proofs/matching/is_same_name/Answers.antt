@@ -8,4 +8,4 @@ pub returns : goal.returns
 returns c =
     let d = same_name_Decides c.args.asked.now c.args.found.now in
     let e : folded c.for_ref.result ≡ folded c.args.asked.now = ap folded c.for_ref.ensures.value in
-    both_ways _ _ (λ h. d.1 (sym e ∙ sym (c.name_eq.ensures.0 h))) (λ h. c.name_eq.ensures.1 (sym (d.0 h) ∙ sym e))
+    both_ways _ _ (λ h. d.1 (sym e ∙ sym (c.name_eq.ensures.equal.0 h))) (λ h. c.name_eq.ensures.equal.1 (sym (d.0 h) ∙ sym e))
