@@ -29,7 +29,7 @@ enum Service {
     Built,
 }
 
-/// The length of the reply to one query, and 0 where there is none. Nothing is known of what it is given, as in a call from C.
+/// The length of the reply to one query, and 0 if there is none. Nothing is known of what it is given, as in a call from C.
 #[inline(never)]
 fn once(
     alloc: Global,
@@ -56,7 +56,7 @@ fn once(
     }
 }
 
-/// The length of the reply, where a service was asked.
+/// The length of the reply, if a service was asked.
 fn answered(
     alloc: Global,
     service: Service,
@@ -106,7 +106,7 @@ fn rewritten(alloc: Global, rule: &ReplyRule, answer: &[u8], reply: &mut [u8]) -
     }
 }
 
-/// So many times: the sum of the lengths.
+/// That many times: the sum of the lengths.
 fn many(alloc: Global, service: Service, count: u64) -> u64 {
     let mut settings = Settings::new(alloc);
     settings.strict = count != 77;

@@ -76,7 +76,7 @@ so_far_more arrival count taken taken' look now mid before k k1 k2 k3 a b c g h 
       );
 }
 
--- so many were to come
+-- that many were to come
 so_far_counted : (count taken : ℕ) (now before : Type 0) (k k' : Known) (a b : AcceptTraffic) (g h : List SocketAddr) (f f' : ℕ) →
     TookSoFar count taken now before k k' a b g h f f' → count ≢ 0 → taken ≡ count → TookCount count now before k k' a b g h f f'
 so_far_counted count taken now before k k' a b g h f f' s some all = record {
@@ -125,7 +125,7 @@ ends_admitted turns look (Caller from Closed) e h = absurd h
 ends_admitted turns look Nobody e h = absurd h
 ends_admitted turns look Fault e h = absurd h
 
--- where fewer came than were to come, one more may
+-- if fewer came than were to come, one more may
 one_more_within : (turns : List AcceptTurn) (look : Look) (came : Came) (count taken : ℕ) → taken ≡ length (callers_in turns) → taken ≤ count → taken ≢ count →
     length (callers_in (turns ++ (record { look = look; came = came }) ∷ [])) ≤ count
 one_more_within turns look came count taken is few less =

@@ -118,7 +118,7 @@ pub record TookTurns (turns : List AcceptTurn) (more : List Entry) (now before w
   pub faults : RoseBy (failures_in turns) f f'
   pub observed : Observed now before (LetIn turns a b × works)
 
--- so many connections came
+-- that many connections came
 pub record TookCount (count : ℕ) (now before : Type 0) (k k' : Known) (a b : AcceptTraffic) (given given' : List SocketAddr)
     (f f' : ℕ) : Type 0 where
   pub turns : List AcceptTurn
@@ -126,7 +126,7 @@ pub record TookCount (count : ℕ) (now before : Type 0) (k k' : Known) (a b : A
   pub all : length (callers_in turns) ≡ count
   pub turned : TookTurns turns [] now before (Gave (admitted_callers_in turns) given given') k k' a b f f'
 
--- one look more showed a shutdown, where fewer connections came than were to come
+-- one look more showed a shutdown, if fewer connections came than were to come
 pub record TookUntilShut (count : ℕ) (now before : Type 0) (k k' : Known) (a b : AcceptTraffic) (given given' : List SocketAddr)
     (f f' : ℕ) : Type 0 where
   pub turns : List AcceptTurn

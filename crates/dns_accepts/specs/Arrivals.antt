@@ -28,7 +28,7 @@ arrival_callers TurnedAway = 1
 arrival_callers NobodyCame = 0
 arrival_callers FaultCame = 0
 
--- those of them that were admitted
+-- how many connections of an arrival were admitted: one at most
 abbrev pub arrival_admitted : Arrival → ℕ
 arrival_admitted WorkStarted = 1
 arrival_admitted Refused = 1
@@ -66,7 +66,7 @@ ArrivalOf (Err e) (Caller from answer) = IsAdmitted answer
 ArrivalOf (Err e) Nobody = ⊥
 ArrivalOf (Err e) Fault = ⊥
 
--- works for these addresses were given, or perhaps not where memory ran out
+-- works for these addresses were given, or perhaps not if memory ran out
 abbrev pub GaveSo : Result Arrival OutOfMemory → List SocketAddr → List SocketAddr → List SocketAddr → Type 0
 GaveSo (Ok arrival) addrs a b = Gave addrs a b
 GaveSo (Err e) addrs a b = Gave addrs a b ⊎ Gave [] a b
@@ -115,12 +115,12 @@ AcceptFaults (Ok TurnedAway) a b = b ≡ a
 AcceptFaults (Ok NobodyCame) a b = b ≡ a
 AcceptFaults (Err e) a b = b ≡ a
 
--- one of two counts rose, exactly where the flag says so
+-- one of two counts rose, exactly if the flag says so
 abbrev pub RoseWhere : Bool → ℕ → ℕ → ℕ → ℕ → Type 0
 RoseWhere true a b c d = Rose a b ⊎ Rose c d
 RoseWhere false a b c d = (b ≡ a) × (d ≡ c)
 
--- the loop so far: whole turns, in which so many connections came as are counted, where they are to be counted
+-- the loop so far: whole turns, in which as many connections came as are counted, if they are to be counted
 pub record TookSoFar (count taken : ℕ) (now before : Type 0) (k k' : Known) (a b : AcceptTraffic) (given given' : List SocketAddr)
     (f f' : ℕ) : Type 0 where
   pub turns : List AcceptTurn
@@ -133,7 +133,7 @@ pub record LookedAt (closed : Bool) (k k' : Known) : Type 0 where
   pub called : Called k ToLook (Shown look) k'
   pub shown : look.closed ≡ closed
 
--- before an accept the loop ends without a look where so many connections came, else where a look shows a shutdown
+-- before an accept the loop ends without a look if that many connections came, else if a look shows a shutdown
 abbrev pub EndedSo : Option AcceptEnd → ℕ → ℕ → Known → Known → Type 0
 EndedSo (Some Counted) count taken k k' = (count ≢ 0) × (taken ≡ count) × (k' ≡ k)
 EndedSo (Some Shutdown) count taken k k' = (count ≢ 0 → taken ≢ count) × LookedAt true k k'

@@ -111,7 +111,7 @@ fn give_up<R: Wait, L: Link + Drop>(rt: &R, book: &Book, mut seat: BookSeat, con
     turn_away(conn);
 }
 
-/// Makes one accept. Where it brought no connection, it waits.
+/// Makes one accept. If it brought no connection, it waits.
 fn accept_or_wait<R: Wait, A: AsyncAccept>(rt: &R, accept: &mut A) -> AcceptAnswer<A::Link>
     ensures moves { Observed (A.tells accept.new) (A.tells accept.old)
         (AcceptMoves result (A.accept_traffic accept.old) (A.accept_traffic accept.new)) }
@@ -159,7 +159,7 @@ where
         }
     }
 
-    /// The work of an admitted connection, with a seat of its own. Where there is no memory for it, its slot is given back and
+    /// The work of an admitted connection, with a seat of its own. If there is no memory for it, its slot is given back and
     /// the link closed.
     fn work_admitted<L: Link + Drop>(
         &self,
@@ -302,7 +302,7 @@ where
         }
     }
 
-    /// How the loop ends before an accept: so many connections came, or a look shows a shutdown.
+    /// How the loop ends before an accept: that many connections came, or a look shows a shutdown.
     fn ended(&self, seat: &mut BookSeat, taken: u64, count: u64) -> Option<AcceptEnd>
         requires { seat.old.book ≡ arc_value self.now.book.now }
         ensures same { seat.new.book ≡ seat.old.book }

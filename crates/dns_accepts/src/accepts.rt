@@ -21,7 +21,7 @@ use std::thread::Threads;
 pub enum AcceptEnd {
     /// A look showed a shutdown.
     Shutdown,
-    /// So many connections were accepted as were to be.
+    /// As many connections were accepted as were to be.
     Counted,
     /// A call found no memory.
     OutOfMemory,

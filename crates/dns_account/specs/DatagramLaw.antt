@@ -9,9 +9,9 @@ use Rattle.dns_dgram_driver.specs.DatagramsServed.{World}
 use Rattle.dns_dgram_driver.specs.Events.{packets_in, cut_packets, numbers_in, numbers_below}
 use Rattle.dns_dgram_driver.specs.Sent.{settings_shown, all_addressed, IsPart}
 
--- Each datagram that the receives gave was heard, up to some at the end where memory ran out: by its first 1,024 octets, as an exchange of
--- its own, under the next number. What was sent are datagrams that the rules send for these events, each to the address of its exchange;
--- those are left out whose send failed or came too late.
+-- Each datagram that the receives gave was heard, up to some at the end if memory ran out: by its first 1,024 octets, as an
+-- exchange of its own, under the next number. What was sent are datagrams that the rules send for these events, each to the address
+-- of its exchange; those are left out whose send failed or came too late.
 pub record DatagramsByTheRules (answers : Serving) (start now : World) : Type 0 where
   pub first : Look
   pub events : List Event

@@ -18,7 +18,7 @@ use Rattle.dns_stream_driver.specs.declared.connection.ConnectionEnd.{Connection
 use Rattle.dns_stream_driver.specs.declared.connection.ConnectionEnd.TheVariants.{Closed, OutOfMemory}
 
 -- From n to n' the client was offered, and then came events of this client alone (or of the whole server). Their pieces are the
--- octets that the link's reads took; where the connection was closed they are all of them. The octets that its writes handed over
+-- octets that the link's reads took; if the connection was closed they are all of them. The octets that its writes handed over
 -- are the frames that the rules for this client alone send for these events, in order. A part of one frame more may follow, the
 -- first that waits.
 pub record ByTheRules (answers : Serving) (end : ConnectionEnd) (client : ℕ) (addr : SocketAddr) (look : Look) (n n' : List Event)

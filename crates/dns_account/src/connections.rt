@@ -45,11 +45,11 @@ fn ended<
     work.run(rt, alloc)
 }
 
-#[tactic(auto, using(crate::proofs::Lawful::lawful, crate::proofs::Closings::end_seen))]
 /// THE LAW of connections. Each connection that a host serves over witnesses is such a work, and its thread does this: over any
 /// link, real sockets too, and by any clock. The octets handed to the link are frames that the rules for this client alone give.
 /// They give them for the octets taken from it and the events that it heard, in order. A part of one more may follow. Nothing need
 /// tell.
+#[tactic(auto, using(crate::proofs::Lawful::lawful, crate::proofs::Closings::end_seen))]
 pub fn every_connection_kept_to_the_rules<
     R: Wait,
     L: Link + Send + Drop + 'static,
@@ -78,7 +78,7 @@ pub fn every_connection_kept_to_the_rules<
     ended(rt, alloc, work)
 }
 
-/// Serves a connection as `serve_connection` does, over a witness of this link and by one of this clock. What it promises where link,
+/// Serves a connection as `serve_connection` does, over a witness of this link and by one of this clock. What it promises if link,
 /// clock and recorder tell holds of what the calls of both answered.
 pub fn serve_connection_over<R: Wait, L: Link + Drop, C: Clock + Drop, W: SharedService>(
     rt: &R,

@@ -14,7 +14,7 @@ use dns_witness::{WitnessClock, WitnessSock};
 use std::alloc::Global;
 use std::sync::Wait;
 
-/// Serves datagrams as `serve_datagrams` does, over a witness of this socket and by one of this clock. What it promises where socket,
+/// Serves datagrams as `serve_datagrams` does, over a witness of this socket and by one of this clock. What it promises if socket,
 /// clock and recorder tell holds of what the calls of both answered.
 pub fn serve_datagrams_over<R: Wait, D: AsyncDgramSock + Drop, C: Clock + Drop, W: SharedService>(
     rt: &R,
@@ -54,9 +54,9 @@ pub fn serve_datagrams_over<R: Wait, D: AsyncDgramSock + Drop, C: Clock + Drop, 
     (seat, end, journal, sock, clock)
 }
 
-#[tactic(auto, using(crate::proofs::Lawful::datagrams_lawful))]
 /// THE LAW of datagrams, over any socket, real ones too, and by any clock. Each datagram that the socket's calls gave is an
 /// exchange of its own. What was sent is what the rules give for these, each to the address of its own exchange. Nothing need tell.
+#[tactic(auto, using(crate::proofs::Lawful::datagrams_lawful))]
 pub fn every_datagram_kept_to_the_rules<
     R: Wait,
     D: AsyncDgramSock + Drop,

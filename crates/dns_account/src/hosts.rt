@@ -15,7 +15,7 @@ use std::alloc::Global;
 use std::sync::{Arc, Wait};
 use std::thread::Threads;
 
-/// Serves a host as `host_service` does, over witnesses of any accept object, socket, clock and spawner. What it promises where these
+/// Serves a host as `host_service` does, over witnesses of any accept object, socket, clock and spawner. What it promises if these
 /// tell holds of what their calls answered. Each connection is a work over a witness of its link, of which
 /// `every_connection_kept_to_the_rules` speaks.
 pub fn serve_host_over<

@@ -47,7 +47,7 @@ impl BookState {
         }
     }
 
-    /// Takes a slot, where the book is open and one is free.
+    /// Takes a slot, if the book is open and one is free.
     pub fn admit(&mut self) -> Admission
         ensures reply { Reply.Admission result ≡ reply_of self.old Call.Admit }
         ensures state { self.new ≡ state_after self.old Call.Admit }

@@ -7,7 +7,7 @@ use Rattle.std.specs.Iterator.{Drains, Yields}
 use Rattle.dns_name.specs.declared.opt_error.BuildDataError.{BuildDataError}
 use Rattle.dns_name.specs.declared.opt_error.BuildDataError.TheVariants.{LongOptData, WrongLength, ShortBuf, OutOfMemory as NoMemory}
 
--- numbers in decimal, each behind a comma and a space
+-- numbers in decimal, each after a comma and a space
 abbrev pub more_algorithms_text : List ℕ → List ℕ
 more_algorithms_text [] = []
 more_algorithms_text (a ∷ more) = 44 ∷ 32 ∷ (decimal a ++ more_algorithms_text more)
@@ -17,7 +17,7 @@ abbrev pub algorithms_text : List ℕ → List ℕ
 algorithms_text [] = []
 algorithms_text (a ∷ more) = decimal a ++ more_algorithms_text more
 
--- what comes of the algorithms that an iterator gives: all of them, or a refusal exactly where they are more than 65,535, or want of memory
+-- what comes of the algorithms that an iterator gives: all of them, or a refusal exactly if they are more than 65,535, or out of memory
 abbrev pub Collected : {S : Type 0} → (S → Option ℕ → S → Type 0) → S → Result (List ℕ) BuildDataError → Type 0
 Collected steps s (Ok k) = Drains steps s k × (length k ≤ 65535)
 Collected {S} steps s (Err LongOptData) = (xs : List ℕ) × (t : S) × Yields steps s xs t × (65535 < length xs)

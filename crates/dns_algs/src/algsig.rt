@@ -308,7 +308,7 @@ impl<'a, K: Variant> ReadBack<'a> for AlgList<&'a [u8], K> {
     ghost comes_back = { list_again K.number };
 }
 
-/// Writes numbers in decimal, each behind a comma and a space.
+/// Writes numbers in decimal, each after a comma and a space.
 fn write_more<W: fmt::Write>(octets: &[u8], f: &mut fmt::Formatter<W>) -> fmt::Result
     ensures { WritesOnOk W.write_str_gives f.old result (more_algorithms_text octets.now) f.new }
 {

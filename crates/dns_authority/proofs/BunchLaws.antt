@@ -13,7 +13,7 @@ no_network : (b : Bool) → (b && false) ≡ true → ⊥
 no_network true h = absurd (cc)
 no_network false h = absurd (cc)
 
--- where a zone may be transferred its bunches are kept
+-- if a zone may be transferred its bunches are kept
 pub bunches_there : {Meta : Type 0} (ns : List Network) (z : ZoneState) (r : Req Meta) (o : Option (List (List ResourceRecord))) → may_transfer ns r ≡ true → o ≡ kept_bunches ns z → o ≡ Some (bunched (transfer_records z))
 bunches_there [] z r o h e = absurd (no_network (is_stream r.transport) h)
 bunches_there (n ∷ ns) z r o h e = e

@@ -17,7 +17,7 @@ use Rattle.dns_transfer.proofs.TransferLaws.{small_transfers_fit, transfers_are_
 use Rattle.dns_zone.specs.Owned.{ZoneState}
 use Rattle.dns_authority.specs.Authorities.{AsksTransfer, AuthorityState, coded, may_transfer}
 use Rattle.dns_zone_tree.specs.Long.{is_long}
-use Rattle.dns_authority.specs.Served.{TransfersAreTheRecords}
+use Rattle.dns_authority.specs.SentZones.{TransfersAreTheRecords}
 use Rattle.dns_authority.proofs.AnswerLaws.{transfers_are_answered}
 use Rattle.dns_authority.proofs.AskedLaws.{sole_asked}
 

@@ -45,7 +45,7 @@ zone_above name [] = None
 zone_above name (z ∷ zs) = if not (same_name name z.zone.apex) && ends_name name z.zone.apex then longer z (zone_above name zs)
     else zone_above name zs
 
--- the zone for DS records of a name: where that begins a zone, the zone above it, if it is served too (RFC 4035, section 3.1.4.1)
+-- the zone for DS records of a name: if that begins a zone, the zone above it, if it is served too (RFC 4035, section 3.1.4.1)
 abbrev pub zone_for_ds : List (List ℕ) → List ServedState → Option ServedState
 zone_for_ds name zs = option_or (zone_above name zs) (zone_for name zs)
 
@@ -53,7 +53,7 @@ zone_for_ds name zs = option_or (zone_above name zs) (zone_for name zs)
 abbrev pub asked_zone : Question → List ServedState → Option ServedState
 asked_zone q zs = if nat_eq q.qtype 43 then zone_for_ds q.qname zs else zone_for q.qname zs
 
--- where a zone's apex ends a name, it is no longer than another's
+-- if a zone's apex ends a name, it is no longer than another's
 abbrev pub IsNoLonger : List (List ℕ) → ServedState → ServedState → Type 0
 IsNoLonger name z y = ends_name name y.zone.apex ≡ true → length y.zone.apex ≤ length z.zone.apex
 
@@ -64,7 +64,7 @@ LongestAnswers = (name : List (List ℕ)) (zs : List ServedState) (z : ServedSta
 
 -- ---- questions
 
--- the one question of a message (RFC 9619, section 3), where it is readable
+-- the one question of a message (RFC 9619, section 3), if it is readable
 abbrev pub sole_question : List ℕ → Option Question
 sole_question o = if nat_eq (counts_of o).qdcount 1 then first_of (questions_of o).0 else None
 
@@ -87,7 +87,7 @@ asks_transfer q = nat_eq q.qtype 252 || nat_eq q.qtype 251
 abbrev pub may_transfer : {Meta : Type 0} → List Network → Req Meta → Bool
 may_transfer allowed r = is_stream r.transport && is_in_any allowed r.client_addr.ip
 
--- a transfer of a zone, where its apex is the name that is asked for
+-- a transfer of a zone, if its apex is the name that is asked for
 abbrev pub transferred : {Meta : Type 0} → List Network → Req Meta → Question → ZoneState → ℕ → Answer
 transferred allowed r q z = if same_name q.qname z.apex && may_transfer allowed r then transfer z r.octets else once (coded r.octets 5)
 
@@ -116,7 +116,7 @@ pub record AuthorityState : Type 0 where
   pub zones : List ServedState
   pub allowed : List Network
 
--- a zone that these networks may transfer is behind the others
+-- a zone that these networks may transfer is after the others
 abbrev pub and_zone : List Network → ZoneState → AuthorityState → AuthorityState
 and_zone allowed z a = record a { zones = a.zones ++ (record { zone = z; allowed = allowed }) ∷ [] }
 
@@ -134,7 +134,7 @@ pub record AsksTransfer {Meta : Type 0} (a : AuthorityState) (r : Req Meta) (q :
   pub asked : asks_transfer q ≡ true
   pub apex : same_name q.qname s.zone.apex ≡ true
 
--- is answered by the transfer where it is allowed, and else REFUSED
+-- is answered by the transfer if it is allowed, and else REFUSED
 abbrev pub TransfersAreAnswered : Type 0 → Type 0
 TransfersAreAnswered Meta = (a : AuthorityState) (r : Req Meta) (q : Question) (s : ServedState) → AsksTransfer a r q s
     → authority_answer a r ≡ (if may_transfer s.allowed r then transfer s.zone r.octets else once (coded r.octets 5))

@@ -6,4 +6,4 @@ pub use Rattle.dns_kinds.specs.Subnet
 pub mod Networks
 pub mod Streams
 pub mod Authorities
-pub mod Served
+pub mod SentZones

@@ -52,7 +52,7 @@ impl Authority {
         }
     }
 
-    /// Adds a zone behind the others, which may be transferred to the authority's networks. A refused call leaves the authority.
+    /// Adds a zone after the others, which may be transferred to the authority's networks. A refused call leaves the authority.
     pub fn add(&mut self, alloc: Global, zone: ZoneTree) -> Result<(), OutOfMemory>
         ensures ok { OnOk result (self.new ≡ and_zone self.old.allowed zone self.old) }
         ensures err { OnErr result (self.new ≡ self.old) }
@@ -61,7 +61,7 @@ impl Authority {
         self.add_for(alloc, zone, allowed)
     }
 
-    /// Adds a zone behind the others, which may be transferred to these networks. A refused call leaves the authority.
+    /// Adds a zone after the others, which may be transferred to these networks. A refused call leaves the authority.
     pub fn add_for(
         &mut self,
         alloc: Global,
@@ -230,7 +230,7 @@ impl<Meta> Service<Meta> for Authority {
 
     /// The response code is NOTIMP for an opcode other than QUERY, and FORMERR if a query doesn't have one readable question. It is
     /// REFUSED for a class other than IN, for a name that is in no zone and for a transfer that isn't allowed. The error is
-    /// InternalError where a reply doesn't fit 65,535 octets, and there is no other.
+    /// InternalError if a reply doesn't fit 65,535 octets, and there is no other.
     fn call(
         &self,
         alloc: Global,
@@ -261,7 +261,7 @@ fn has_one_question<Meta>(request: &Request<Meta>) -> bool
     request.message().header_counts().qdcount == 1
 }
 
-/// The one question of a request's message, where it is readable.
+/// The one question of a request's message, if it is readable.
 fn sole_question<Meta>(request: &Request<Meta>) -> Option<QuestionRef<'_>>
     ensures { result ≡ sole_question request.now.octets }
 {
@@ -293,7 +293,7 @@ fn asks_ds(question: &QuestionRef<'_>) -> bool
     question.qtype() == Rtype::DS
 }
 
-/// A zone, where its apex ends the name of a question and is no shorter than that of the best one behind it.
+/// A zone, if its apex ends the name of a question and is no shorter than that of the best one after it.
 fn better<'a>(
     zone: &'a ServedZone,
     best: Option<&'a ServedZone>,
@@ -311,7 +311,7 @@ fn better<'a>(
     }
 }
 
-/// That, but for a zone whose apex is the name.
+/// That, except for a zone whose apex is the name.
 fn better_above<'a>(
     zone: &'a ServedZone,
     best: Option<&'a ServedZone>,

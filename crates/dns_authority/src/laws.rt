@@ -4,7 +4,7 @@ ghost use Rattle.std.specs.Prelude.{◌≡◌, ◌↔◌, ℕ, List, IsTrue};
 ghost use Rattle.dns_name.specs.Canonical.{same_name};
 ghost use Rattle.dns_name.specs.Labels.{folded};
 ghost use Rattle.dns_authority.specs.Authorities.{LongestAnswers, TransfersAreAnswered};
-ghost use Rattle.dns_authority.specs.Served.{TheZoneIsSent, TransfersAreTheRecords};
+ghost use Rattle.dns_authority.specs.SentZones.{TheZoneIsSent, TransfersAreTheRecords};
 
 use dns_zone_tree::ZoneTree;
 
@@ -32,7 +32,7 @@ pub fn zones_are_sent<Meta>(zone: &ZoneTree)
     zone.records();
 }
 
-/// Names are the same exactly where their labels are, in lower case.
+/// Names are the same exactly if their labels are, in lower case.
 #[tactic(auto, using(crate::proofs::ZoneForLaws::same_names))]
 pub(crate) fn same_names_are_folded()
     ensures { (a b : List (List ℕ)) → IsTrue (same_name a b) ↔ (folded a ≡ folded b) }

@@ -19,7 +19,7 @@ use std::alloc::Global;
 use std::marker::Model;
 use std::sync::Arc;
 
-/// A zone, the networks to which it may be transferred, and its records in the bunches of a transfer, where there is such a
+/// A zone, the networks to which it may be transferred, and its records in the bunches of a transfer, if there is such a
 /// network.
 #[derive(Drop)]
 pub(crate) struct ServedZone {

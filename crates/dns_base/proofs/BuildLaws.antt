@@ -38,7 +38,7 @@ questions_more xs ys = ap length (flat_map-append question_octets xs ys) ∙ len
 pub records_more : (xs ys : List ResourceRecord) → records_size (xs ++ ys) ≡ records_size xs + records_size ys
 records_more xs ys = ap length (flat_map-append record_octets xs ys) ∙ length-append (flat_map record_octets xs) (flat_map record_octets ys)
 
--- one record, and then those behind it
+-- one record, and then those after it
 pub record_first : (s : Section) (b : Built) (x : ResourceRecord) (ys : List ResourceRecord) → with_records s (with_record s b x) ys ≡ with_records s b (x ∷ ys)
 record_first Answer b x ys = ap (λ l. record b { message = record b.message { answers = l } }) (append_assoc b.message.answers (x ∷ []) ys)
 record_first Authority b x ys = ap (λ l. record b { message = record b.message { authority = l } }) (append_assoc b.message.authority (x ∷ []) ys)
@@ -68,7 +68,7 @@ questions_grow b qs = omega (arith, wire_size (with_questions b qs).message, wir
 pub next_item : {A : Type 0} (i : ℕ) (xs : List A) (x : A) → i < length xs → x ≡ get_or xs i x → drop i xs ≡ x ∷ drop (suc i) xs
 next_item i xs x h e = drop-cons xs i x h ∙ ap (λ y. y ∷ drop (suc i) xs) (sym e)
 
--- a record without room, then also those behind it
+-- a record without room, then also those after it
 push_refused : (s : Section) (b c : Built) (x : ResourceRecord) (ys : List ResourceRecord) (more new : Built) (e : PushError) →
     Pushes b c (with_record s b x) (Err e) → with_records s b (x ∷ ys) ≡ more → Becomes new more (Err e)
 push_refused s b c x ys more new ShortBuf p h =

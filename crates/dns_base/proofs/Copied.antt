@@ -38,7 +38,7 @@ copied_on b q qs h = chosen _ _ _ _ h
 pub copied_off : (b : Built) (q : Question) (qs : List Question) → b.limit < length (wire (and_question b.message q)) → with_copied b (q ∷ qs) ≡ (b, false)
 copied_off b q qs h = other _ _ _ _ h
 
--- where all questions have room, they are added
+-- if all questions have room, they are added
 pub all_copied : (qs : List Question) (b new : Built) → with_copied b qs ≡ (new, true) → new ≡ with_questions b qs
 all_copied [] b new h = sym (ap (λ (p : Built × Bool). p.0) h) ∙ ap (λ (l : List Question). record b { message = record b.message { questions = l } }) (sym (append-nil b.message.questions))
 all_copied (q ∷ qs) b new h =
@@ -75,7 +75,7 @@ questions_length m qs =
     let d = ap length (flat_map-append question_octets m.questions qs) ∙ length-append fq (flat_map question_octets qs) in
     omega arith
 
--- where all together have room, each has
+-- if all together have room, each has
 all_fit : (qs : List Question) (b : Built) → length (wire (and_questions b.message qs)) ≤ b.limit → with_copied b qs ≡ (with_questions b qs, true)
 all_fit [] b h = ap (λ (l : List Question). (record b { message = record b.message { questions = l } }, true)) (sym (append-nil b.message.questions))
 all_fit (q ∷ qs) b h =

@@ -19,7 +19,7 @@ all_readable : {A : Type 0} (xs : List A) → AreReadable (map Ok xs)
 all_readable [] = tt
 all_readable (x ∷ xs) = all_readable xs
 
--- where a section ends, no item of it is a refusal
+-- if a section ends, no item of it is a refusal
 ended_readable : {A : Type 0} (i : Items A) (end : ℕ) → i.1 ≡ Ok end → AreReadable (all_of i)
 ended_readable (xs, Ok e) end h = all_readable xs
 ended_readable (xs, Err e) end h = absurd (cc)

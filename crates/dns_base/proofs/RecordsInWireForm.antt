@@ -124,7 +124,7 @@ section_few Answer m rs = omega (arith, halves (length m.answers), length-append
 section_few Authority m rs = omega (arith, halves (length m.authority), length-append m.authority rs, (sizes (and_records Authority m rs)).2)
 section_few Additional m rs = omega (arith, halves (length m.additional), length-append m.additional rs, (sizes (and_records Additional m rs)).3)
 
--- with their octets behind the message
+-- with their octets after the message
 pub counts_room : (o p : List ℕ) (limit : ℕ) (b : Built) (s : Section) (rs : List ResourceRecord) → IsDraft o limit → viewed o limit ≡ b → IsLast s b.message → p ≡ o ++ spelling rs → length o - 2 + length (spelling rs) ≤ limit →
     (13 < length p) × (field (count_place s) (drop 2 p) + length rs < 65536)
 counts_room o p limit b s rs d v h e f =

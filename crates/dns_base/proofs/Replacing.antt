@@ -28,7 +28,7 @@ before m = header_octets m.header ++ (counts m ++ kept Additional m)
 before_length : (m : Msg) → length (before m) ≡ 12 + length (kept Additional m)
 before_length m = omega arith
 
--- a message with octets behind it
+-- a message with octets after it
 parted : (m : Msg) (p : List ℕ) → wire m ++ p ≡ before m ++ (spelling m.additional ++ p)
 unfolding wire
 parted m p =
@@ -110,7 +110,7 @@ named_more : (rs : List ResourceRecord) (r : ResourceRecord) → AllByRecursion 
 named_more [] r h p = (p, tt)
 named_more (x ∷ rs) r h p = (h.0, named_more rs r h.1 p)
 
--- where as many records are of other types, all are
+-- if as many records are of other types, all are
 pub all_others : (t : ℕ) (rs : List ResourceRecord) → length (other_than t rs) ≡ length rs → other_than t rs ≡ rs
 all_others t [] e = refl
 all_others t (r ∷ rs) e =
@@ -179,7 +179,7 @@ replaced o p o' limit b t start count n r d v h k l i j s e f =
     (omega (arith, (replaced_length o limit b t start r d v h).0, s, d.limited)) d.limited (omega arith) in
     (y.0, y.1 ∙ ap (λ x. built (having m more) x) (sym w.3))
 
--- the records stand there, behind the header
+-- the records stand there, after the header
 pub spelt_draft : (o p x : List ℕ) (limit : ℕ) (b : Built) (start count : ℕ) → IsDraft o limit → viewed o limit ≡ b → start_of Additional (wire b.message) ≡ Ok start → count ≡ length b.message.additional → x ≡ wire b.message ++ p → AreSpelt x count start
 spelt_draft o p x limit b start count d v h k e =
     let a = start_known Additional o start limit b d v h in

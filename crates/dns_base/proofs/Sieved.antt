@@ -10,7 +10,7 @@ use Rattle.dns_base.specs.Draft.{counted}
 use Rattle.dns_base.specs.Replaced.{other_than, kept_part, kept_of, records_at, spelling, behind_records, AreSpelt}
 use Rattle.dns_message.proofs.Written.{past, record_written}
 
--- so many records that are still to be gone over, and what is behind them
+-- that many records that are still to be gone over, and what is after them
 pub record Ahead (o : List ℕ) (at left : ℕ) (tail : List ℕ) (rest : List ResourceRecord) : Type 0 where
   pub many : length rest ≡ left
   pub named : AllByRecursion HasOwner rest
@@ -191,7 +191,7 @@ take_whole : (o : List ℕ) → take (length o) o ≡ o
 take_whole [] = refl
 take_whole (x ∷ o) = ap (λ l. x ∷ l) (take_whole o)
 
--- all records are gone over, and what is behind them is moved
+-- all records are gone over, and what is after them is moved
 pub sieving_ends : (first o o' : List ℕ) (t : ℕ) (tail target : List ℕ) (start at put left b : ℕ) → Sieving first o t tail target start at put left → left ≡ 0 → b ≡ length o - at →
     take (put + b) o' ≡ take put o ++ take b (drop at o) → length o' ≡ length o → (take (put + b) o' ≡ target) × (put + b ≤ length o')
 sieving_ends first o o' t tail target start at put left b k e f i l =
@@ -202,7 +202,7 @@ sieving_ends first o o' t tail target start at put left b k e f i l =
     let u : spelling (other_than t k.rest) ++ tail ≡ tail = ap (λ x. spelling (other_than t x) ++ tail) z in
     (i ∙ (ap (λ x. take put o ++ x) (v ∙ sym u) ∙ k.gives), omega (arith, f, l, k.behind, k.ahead.within))
 
--- ---- octets that stand behind two others
+-- ---- octets that stand after two others
 
 take_less : (e k : ℕ) (o : List ℕ) → e ≤ k → take e (take k o) ≡ take e o
 take_less zero k o h = refl

@@ -25,13 +25,13 @@ and_records Additional m rs = record m { additional = m.additional ++ rs }
 abbrev pub with_records : Section → Built → List ResourceRecord → Built
 with_records s b rs = record b { message = and_records s b.message rs }
 
--- what is built becomes more, or the additions end ShortBuf exactly where it would pass its limit
+-- what is built becomes more, or the additions end ShortBuf exactly if it would pass its limit
 abbrev pub Becomes : Built → Built → Result ⊤ PushError → Type 0
 Becomes new more (Ok _) = (new ≡ more) × KeepsLimit more
 Becomes new more (Err ShortBuf) = PassesLimit more
 Becomes new more (Err NoMemory) = Unit {0}
 
--- this is built, or refused ShortBuf exactly where it would pass its limit
+-- this is built, or refused ShortBuf exactly if it would pass its limit
 abbrev pub Builds : Built → Result Built PushError → Type 0
 Builds more (Ok b) = (b ≡ more) × KeepsLimit more
 Builds more (Err ShortBuf) = PassesLimit more

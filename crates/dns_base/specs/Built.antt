@@ -74,7 +74,7 @@ less_section s b = record b { message = less_records s b.message }
 abbrev pub PassesLimit : Built → Type 0
 PassesLimit b = b.limit < length (wire b.message)
 
--- A push adds an item where the message stays within its limit. It is refused ShortBuf exactly where the message would pass it;
+-- A push adds an item if the message stays within its limit. It is refused ShortBuf exactly if the message would pass it;
 -- a refused push leaves what was built.
 abbrev pub Pushes : Built → Built → Built → Result ⊤ PushError → Type 0
 Pushes old new more (Ok _) = (new ≡ more) × (length (wire more.message) ≤ more.limit)
@@ -97,7 +97,7 @@ pub record NoAuthority (m : Msg) : Type 0 where
   pub authority : m.authority ≡ []
   pub additional : m.additional ≡ []
 
--- the sections behind a section of records are empty
+-- the sections after a section of records are empty
 abbrev pub IsLast : Section → Msg → Type 0
 IsLast Answer m = NoAuthority m
 IsLast Authority m = m.additional ≡ []
@@ -113,7 +113,7 @@ pub data Extent : Type 0 where
   to_questions : Extent
   to_records : Section → Extent
 
--- what is behind that is empty
+-- what is after that is empty
 abbrev pub IsWithin : Extent → Msg → Type 0
 IsWithin to_header m = NoSections m
 IsWithin to_questions m = NoRecords m

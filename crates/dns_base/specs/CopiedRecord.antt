@@ -11,6 +11,6 @@ abbrev pub plainly : Result Record ParseError → Result ResourceRecord ParseErr
 plainly (Ok r) = Ok (record_of r)
 plainly (Err e) = Err e
 
--- a record that stands in a message, copied: refused where its data is unreadable
+-- a record that stands in a message, copied: refused if its data is unreadable
 abbrev pub copied_record : Standing → Result ResourceRecord ParseError
 copied_record s = plainly (typed s)

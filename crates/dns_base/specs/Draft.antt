@@ -1,4 +1,4 @@
--- How a builder keeps its message: behind two octets for its length (RFC 1035, section 4.2.2).
+-- How a builder keeps its message: after two octets for its length (RFC 1035, section 4.2.2).
 use Rattle.std.specs.Prelude.{ℕ, Result, Ok, ◌≡◌, ◌+◌, ◌/◌, ◌%◌, ◌≤◌, List, ◌++◌, length, drop, slice_set}
 use Rattle.dns_name.specs.Place.{two}
 use Rattle.dns_base.specs.declared.draft.Section.{Section}
@@ -34,7 +34,7 @@ start_in s Additional = s.additional
 abbrev pub all_at : ℕ → Starts
 all_at n = record { answer = n; authority = n; additional = n }
 
--- the sections behind one at a place
+-- the sections after one at a place
 abbrev pub moved_behind : Starts → Section → ℕ → Starts
 moved_behind s Answer n = record s { authority = n; additional = n }
 moved_behind s Authority n = record s { additional = n }
@@ -50,7 +50,7 @@ pub record IsDraft (o : List ℕ) (limit : ℕ) : Type 0 where
   pub built : IsBuilt (drop 2 o)
   pub limited : limit ≤ 65535
 
--- octets that are a message behind its length
+-- octets that are a message after its length
 pub record IsFrame (o : List ℕ) : Type 0 where
   pub framed : o ≡ two (length (drop 2 o)) ++ drop 2 o
   pub short : length (drop 2 o) ≤ 65535

@@ -17,7 +17,7 @@ other_than t (r ∷ rs) = if nat_eq r.rtype t then other_than t rs else r ∷ ot
 abbrev pub less_type : ℕ → Built → Built
 less_type t b = record b { message = record b.message { additional = other_than t b.message.additional } }
 
--- what is kept of a record of a type between two places, where records of another type are dropped: how many records, how many
+-- what is kept of a record of a type between two places, if records of another type are dropped: how many records, how many
 -- octets, and the end
 abbrev pub kept_part : ℕ → ℕ → ℕ → ℕ → ℕ × ℕ × ℕ
 kept_part kind t at end = if nat_eq kind t then (0, 0, end) else (1, end - at, end)
@@ -27,7 +27,7 @@ abbrev pub kept_of : ℕ → ℕ → Read ResourceRecord → ℕ × ℕ × ℕ
 kept_of t at (Ok x) = kept_part x.0.rtype t at x.1
 kept_of t at (Err e) = (0, 0, at)
 
--- so many records from a place on
+-- that many records from a place on
 abbrev pub records_at : List ℕ → ℕ → ℕ → List ResourceRecord
 records_at o count at = (items_from (record_at o) count at).0
 
@@ -35,13 +35,13 @@ records_at o count at = (items_from (record_at o) count at).0
 abbrev pub spelling : List ResourceRecord → List ℕ
 spelling rs = flat_map record_octets rs
 
--- so many records from a place on are readable, and stand there with their names uncompressed
+-- that many records from a place on are readable, and stand there with their names uncompressed
 pub record AreSpelt (o : List ℕ) (count at : ℕ) : Type 0 where
   pub many : length (records_at o count at) ≡ count
   pub named : AllByRecursion HasOwner (records_at o count at)
   pub within : at ≤ length o
   pub stand : drop at o ≡ spelling (records_at o count at) ++ drop (at + length (spelling (records_at o count at))) o
 
--- what is behind so many records
+-- what is after that many records
 abbrev pub behind_records : List ℕ → ℕ → ℕ → List ℕ
 behind_records o count at = drop (at + length (spelling (records_at o count at))) o

@@ -41,7 +41,7 @@ Copies c new (Err NoMemory) = Unit {0}
 abbrev pub have_room : Built → List ℕ → ℕ → Bool
 have_room b o rcode = (with_copied (with_header b (answer_header b.message.header (header_of o) rcode)) (questions_of o).0).1
 
--- an answer is begun, or refused ShortBuf exactly where a question has no room
+-- an answer is begun, or refused ShortBuf exactly if a question has no room
 abbrev pub Answers : Built → List ℕ → ℕ → Result Built PushError → Type 0
 Answers b o rcode (Ok new) = (new ≡ answer_to b o rcode) × (have_room b o rcode ≡ true)
 Answers b o rcode (Err ShortBuf) = have_room b o rcode ≡ false

@@ -4,7 +4,7 @@ use Rattle.std.specs.List.{AllByRecursion}
 use Rattle.dns_base.specs.Msg.{HasOwner}
 use Rattle.dns_base.specs.Replaced.{records_at, spelling}
 
--- octets that are so many records and nothing else
+-- octets that are that many records and nothing else
 pub record AreWireRecords (o : List ℕ) (count : ℕ) : Type 0 where
   pub many : length (records_at o count 0) ≡ count
   pub named : AllByRecursion HasOwner (records_at o count 0)

@@ -24,7 +24,7 @@ pub use stage::{RecordStage, Stage};
 use std::alloc::Global;
 use std::marker::{Model, PhantomData};
 
-/// A message that is being built, at a stage: what is behind that is empty. It is moved often, so its state stands in a box.
+/// A message that is being built, at a stage: what is after that is empty. It is moved often, so its state stands in a box.
 #[derive(Debug, Drop)]
 pub struct Builder<S: Stage> {
     draft: Box<Draft>,
@@ -126,7 +126,7 @@ impl<S: Stage> Builder<S> {
         self.draft.counts()
     }
 
-    /// How many octets the message may take; 65,535 where no limit is set.
+    /// How many octets the message may take; 65,535 if no limit is set.
     pub fn push_limit(&self) -> usize
         ensures value { result ≡ self.now.limit }
         ensures limited { result ≤ 65535 }
@@ -134,7 +134,7 @@ impl<S: Stage> Builder<S> {
         self.draft.push_limit()
     }
 
-    /// Lets the message take so many octets, at most 65,535.
+    /// Lets the message take that many octets, at most 65,535.
     pub fn set_push_limit(&mut self, limit: usize)
         ensures { self.new ≡ record self.old { limit = min limit 65535 } }
     {

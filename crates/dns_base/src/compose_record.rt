@@ -9,7 +9,7 @@ use dns_message::ComposeRecord;
 use dns_name::{OutOfMemory, Ttl};
 use std::alloc::Global;
 
-/// What an OPT record says beside its name and type (RFC 6891, section 6.1.2).
+/// What an OPT record says besides its name and type (RFC 6891, section 6.1.2).
 #[derive(Clone, Copy)]
 pub(crate) struct OptFields<'a> {
     /// The greatest payload over UDP, in the place of the class.

@@ -28,7 +28,7 @@ impl Model for CopiedRecord {
 }
 
 impl CopiedRecord {
-    /// A copy of a record as it stands in a message, its names uncompressed; refused where its data is unreadable.
+    /// A copy of a record as it stands in a message, its names uncompressed; refused if its data is unreadable.
     pub fn read(alloc: Global, source: &RecordRef<'_>) -> Result<CopiedRecord, ParseError>
         ensures { GivesParsed result (copied_record source.now) }
     {

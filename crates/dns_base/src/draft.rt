@@ -92,7 +92,7 @@ impl Starts {
     }
 }
 
-/// A message behind two octets for its length, where its sections begin, and the limit of its octets.
+/// A message after two octets for its length, where its sections begin, and the limit of its octets.
 #[derive(Debug, Drop)]
 pub(crate) struct Draft {
     octets: Vec<u8>,
@@ -191,7 +191,7 @@ impl Draft {
         self.limit
     }
 
-    /// Lets the message take so many octets, at most 65,535.
+    /// Lets the message take that many octets, at most 65,535.
     pub(crate) fn set_push_limit(&mut self, limit: usize)
         ensures { self.new ≡ record self.old { limit = min limit 65535 } }
     {
@@ -354,7 +354,7 @@ fn drop_length(octets: &mut Vec<u8>)
     octets.truncate(len - 2);
 }
 
-/// Writes the header of a message that stands behind two octets.
+/// Writes the header of a message that stands after two octets.
 fn put_header(octets: &mut Vec<u8>, header: &Header)
     requires { 6 ≤ length octets.old.items }
     ensures header { drop 2 octets.new.items ≡ header_octets header.now ++ drop 6 octets.old.items }
@@ -368,7 +368,7 @@ fn put_header(octets: &mut Vec<u8>, header: &Header)
     octets[5] = d;
 }
 
-/// Writes a count at a place of a message that stands behind two octets.
+/// Writes a count at a place of a message that stands after two octets.
 fn put_count(octets: &mut Vec<u8>, at: usize, count: u16)
     requires within { at + 3 < length octets.old.items }
     ensures message { drop 2 octets.new.items ≡ counted at count (drop 2 octets.old.items) }
@@ -378,7 +378,7 @@ fn put_count(octets: &mut Vec<u8>, at: usize, count: u16)
     octets[at + 3] = (count % 256) as u8;
 }
 
-/// Counts one item more at a place of a message that stands behind two octets.
+/// Counts one item more at a place of a message that stands after two octets.
 fn count_more(octets: &mut Vec<u8>, at: usize)
     requires within { at + 3 < length octets.old.items }
     requires few { field at (drop 2 octets.old.items) < 65535 }
@@ -389,7 +389,7 @@ fn count_more(octets: &mut Vec<u8>, at: usize)
     put_count(octets, at, count);
 }
 
-/// Cuts a message that stands behind two octets, and sets the count at a place of it to 0.
+/// Cuts a message that stands after two octets, and sets the count at a place of it to 0.
 fn cut(octets: &mut Vec<u8>, start: usize, at: usize)
     requires after { at + 1 < start }
     requires within { start + 2 ≤ length octets.old.items }

@@ -8,7 +8,7 @@ ghost use Rattle.dns_base.specs.Standing.{record_at};
 use dns_message::record_in;
 use dns_name::Rtype;
 
-/// The records of other types than one, among so many from a place of a message on.
+/// The records of other types than one, among that many from a place of a message on.
 #[derive(Clone, Copy)]
 pub(crate) struct Others {
     /// Where the records begin.
@@ -28,11 +28,11 @@ struct KeptSpan {
     many: u16,
     /// How many octets.
     size: usize,
-    /// The place behind the record.
+    /// The place after the record.
     end: usize,
 }
 
-/// What is kept of the record at a place where records of a type are dropped.
+/// What is kept of the record at a place if records of a type are dropped.
 #[tactic(auto, unfolding(dns_message::specs::Standing::record_at))]
 fn kept_at(message: &[u8], at: usize, rtype: Rtype) -> KeptSpan
     requires { at ≤ length message.now }
@@ -48,7 +48,7 @@ fn kept_at(message: &[u8], at: usize, rtype: Rtype) -> KeptSpan
     }
 }
 
-/// What is kept of a record of a type where records of another are dropped.
+/// What is kept of a record of a type if records of another are dropped.
 fn part_of(kind: Rtype, at: usize, end: usize, rtype: Rtype) -> KeptSpan
     ensures { (result.many, result.size, result.end) ≡ kept_part kind rtype at end }
 {
@@ -93,7 +93,7 @@ pub(crate) fn count_others(message: &[u8], start: usize, count: u16, rtype: Rtyp
     }
 }
 
-/// Drops the records of a type in a message that stands behind two octets, and sets the count at its place 10.
+/// Drops the records of a type in a message that stands after two octets, and sets the count at its place 10.
 pub(crate) fn squeeze(octets: &mut Vec<u8>, others: Others, rtype: Rtype, count: u16)
     requires header { 14 ≤ length octets.old.items }
     requires spelt { AreSpelt (drop 2 octets.old.items) others.count others.start }
@@ -115,7 +115,7 @@ pub(crate) fn squeeze(octets: &mut Vec<u8>, others: Others, rtype: Rtype, count:
     octets[13] = (count % 256) as u8;
 }
 
-/// Moves the records of other types and what is behind the records together, and gives the place where that ends.
+/// Moves the records of other types and what is after the records together, and gives the place where that ends.
 fn sift(message: &mut [u8], start: usize, count: u16, rtype: Rtype) -> usize
     requires { AreSpelt message.old count start }
     ensures message { take result message.new

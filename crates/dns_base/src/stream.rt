@@ -23,7 +23,7 @@ impl Model for StreamTarget {
 }
 
 impl StreamTarget {
-    /// The message that stands behind two octets.
+    /// The message that stands after two octets.
     pub(crate) fn of(mut octets: Vec<u8>) -> StreamTarget
         requires framed { 2 ≤ length octets.items }
         requires short { length (drop 2 octets.items) ≤ 65535 }
@@ -52,7 +52,7 @@ impl StreamTarget {
         octets
     }
 
-    /// The message's octets behind their number in two octets.
+    /// The message's octets after their number in two octets.
     pub fn as_stream_slice(&self) -> &[u8]
         ensures value { result.now ≡ two (length self.now) ++ self.now }
         ensures short { length self.now ≤ 65535 }

@@ -42,7 +42,7 @@ impl WireRecords {
         }
     }
 
-    /// Adds a record behind the others; nothing where there is no memory.
+    /// Adds a record after the others; nothing if there is no memory.
     pub fn push(&mut self, alloc: Global, added: &Record) -> Result<(), OutOfMemory>
         requires { IsLawful added.now.rdata }
         ensures ok { OnOk result (self.new ≡ self.old ++ record_of added.now ∷ []) }

@@ -1,4 +1,4 @@
--- A book is closed where it began so or a shutdown stands in its history.
+-- A book is closed if it began so or a shutdown stands in its history.
 use Rattle.std.proofs.Common.{◌≡◌, ◌≢◌, ◌⊎◌, ◌↔◌, Bool, true, false, if◌then◌else◌, List, [], ◌∷◌, refl, sym, ◌∙◌, subst, inl, inr, ⊎_elim, true≢false}
 use Rattle.dns_events.specs.declared.look.Look.{Look as State}
 use Rattle.dns_admission.specs.declared.admission.Admission.{Admission}

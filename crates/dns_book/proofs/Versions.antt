@@ -59,7 +59,7 @@ shown_now at k k' c r h met = record {
   is = sym met;
 }
 
--- the state that a call met lies behind each that was shown
+-- the state that a call met lies after each that was shown
 met_behind : (s : State) (k k' : Known) (c : Call) (r : Reply) (h : Called k c r k') (w : WasShown s k.opening k.seen) → state_met k' ≡ states_after s (w.began.0 ++ h.seen.0)
 met_behind s k k' c r h w =
     ap (λ (q : State). states_after q (but_last k'.seen)) h.same_book

@@ -79,7 +79,7 @@ impl Book {
         Ok((Book { cell }, seat))
     }
 
-    /// Takes a slot, where the book is open and one is free.
+    /// Takes a slot, if the book is open and one is free.
     #[tactic(auto, using(crate::proofs::Shutdowns::closed_exactly))]
     pub fn admit<R: Wait>(&self, rt: &R, seat: &mut BookSeat) -> Admission
         requires { seat.old.book ≡ self.now }
@@ -271,7 +271,7 @@ impl Book {
         self.exchange::<Try<K>, R>(rt, pass, current, next).is_ok()
     }
 
-    // One loop for the four calls: load, compute, exchange, and again where another seat came between.
+    // One loop for the four calls: load, compute, exchange, and again if another seat came between.
     // It answers the state in which the call was made.
     fn make_at<R: Wait>(&self, rt: &R, pass: &mut SeatPass, call: Call) -> BookState
         requires book { pass.old.table_id ≡ self.now }

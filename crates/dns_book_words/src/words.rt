@@ -103,7 +103,7 @@ pub fn look_of(words: &BookWords) -> Look
     }
 }
 
-/// What was shown becomes what the words stand for. Where it has their version, its configurations are theirs.
+/// What was shown becomes what the words stand for. If it has their version, its configurations are theirs.
 pub fn renew(shown: &mut Look, words: &BookWords)
     requires { shown.old.version ≡ (state_of words.now).version → HasConfigs shown.old (state_of words.now) }
     ensures { shown.new ≡ state_of words.now }

@@ -18,7 +18,7 @@ use Rattle.dns_cache.specs.Ttls.{records_of}
 
 -- ---- one record
 
--- what stands before its TTL, and behind it
+-- what stands before its TTL, and after it
 abbrev front : ResourceRecord → List ℕ
 front r = spell r.owner ++ (two r.rtype ++ two r.class)
 
@@ -122,7 +122,7 @@ records_aged_all m request age =
     let f = aged_record age in
     ap (λ l. map f m.answers ++ l) (sym (map-append f m.authority m.additional)) ∙ sym (map-append f m.answers (m.authority ++ m.additional))
 
--- the counts of the records stand behind that of the questions
+-- the counts of the records stand after that of the questions
 record_counts : (m : Msg) → take 6 (drop 6 (wire m)) ≡ two (length m.answers) ++ (two (length m.authority) ++ two (length m.additional))
 unfolding wire
 record_counts m = refl

@@ -54,7 +54,7 @@ pub copied_marks : (o : List ℕ) (m1 m2 m3 : List Mark) → AreMarked true (cop
 unfolding copied
 copied_marks o m1 m2 m3 a b c = gathered_marks (header_of o) (whole_list (all_of (questions_of o))) (copied_records (all_of (standing_answers o))) (copied_records (all_of (standing_authority o))) (copied_records (all_of (standing_additional o))) m1 m2 m3 a b c
 
--- ---- where a section isn't reached
+-- ---- if a section isn't reached
 
 refused_items : (xs : List Standing) (e : ParseError) → (x : ParseError) × (copied_records (map (λ (s : Standing). Ok s) xs ++ Err e ∷ []) ≡ Err x)
 refused_items [] e = (e, refl)
@@ -114,7 +114,7 @@ pub bare_copied : (o : List ℕ) (c : Msg) → copied o ≡ Ok c → other_than 
 unfolding copied
 bare_copied o c h = bare_gathered (header_of o) (whole_list (all_of (questions_of o))) (copied_records (all_of (standing_answers o))) (copied_records (all_of (standing_authority o))) (copied_records (all_of (standing_additional o))) c h
 
--- the copy of a reply's octets, which is a built message but for its OPT record
+-- the copy of a reply's octets, which is a built message except for its OPT record
 pub record IsCopy (r : ReplyState) (b : Msg) : Type 0 where
   pub copy : Msg
   pub copies : copied r.octets ≡ Ok copy

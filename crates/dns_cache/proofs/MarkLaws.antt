@@ -28,14 +28,14 @@ pub map_joined : {A B : Type 0} (f : A → B) (xs ys : List A) → map f (xs ++ 
 map_joined f [] ys = refl
 map_joined f (x ∷ xs) ys = ap (λ l. f x ∷ l) (map_joined f xs ys)
 
--- marking a record, and then those behind it
+-- marking a record, and then those after it
 joined_items : (all : Bool) (one : Result ResourceRecord ParseError) (more : Result (List ResourceRecord) ParseError) (old mid new : List Mark) → IsMarked all one old mid → AreMarked all more mid new → AreMarked all (in_front one more) old new
 joined_items all (Ok x) (Ok xs) old mid new h g =
     ((h.0.0, g.0), g.1 ∙ (ap (λ (l : List Mark). l ++ map mark_of (marked_ones all xs)) h.1 ∙ (append_assoc old (map mark_of (marked_ones all (x ∷ []))) (map mark_of (marked_ones all xs)) ∙ ap (λ (l : List Mark). old ++ l) (sym (map_joined mark_of (marked_ones all (x ∷ [])) (marked_ones all xs)) ∙ ap (map mark_of) (sym (ones_joined all (x ∷ []) xs))))))
 joined_items all (Ok x) (Err e) old mid new h g = tt
 joined_items all (Err e) more old mid new h g = tt
 
--- where what is left is marked behind these, all of it is marked behind the first ones
+-- if what is left is marked after these, all of it is marked after the first ones
 pub record Goes (all : Bool) (items left : List (Result Standing ParseError)) (old now : List Mark) : Type 0 where
   pub rest : (new : List Mark) → AreMarked all (copied_records left) now new → AreMarked all (copied_records items) old new
 

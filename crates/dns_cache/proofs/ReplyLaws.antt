@@ -85,7 +85,7 @@ kept_by r e true true false p q s = cc
 kept_by r e true false c p q s = refl
 kept_by r e false b c p q s = cc
 
--- a message that may be kept and is readable is kept exactly where it fits
+-- a message that may be kept and is readable is kept exactly if it fits
 pub where_fits : (r : Req (Unit {0})) (e : KeptReply) → e.secs ≡ r.received_secs → may_keep e.message ≡ true → is_ok (copied (wire (aged e.message r.octets 0))) ≡ true → (if fits_frame (aged e.message r.octets 0) then Some e else None) ≡ where_kept r e.message
 where_fits r e s m c = kept_by r e (may_keep e.message) (fits_frame (aged e.message r.octets 0)) (is_ok (copied (wire (aged e.message r.octets 0)))) m c s
 
@@ -96,11 +96,11 @@ not_by r m false b h = refl
 pub not_kept : (r : Req (Unit {0})) (m : Msg) → may_keep m ≡ false → ◌≡◌ {A = Option KeptReply} None (where_kept r m)
 not_kept r m h = not_by r m (may_keep m) (comes_back (aged m r.octets 0)) h
 
--- what is behind a place, as it is cut out
+-- what is after a place, as it is cut out
 pub tail_all : (n : ℕ) (o : List ℕ) → take (length o - n) (drop n o) ≡ drop n o
 tail_all n o = take_all (length o - n) (drop n o) (omega (arith, length-drop n o))
 
--- a message of a code that is kept may be kept exactly where its least TTL isn't 0
+-- a message of a code that is kept may be kept exactly if its least TTL isn't 0
 pub may_keep_by : (m : Msg) (n : ℕ) → is_whole m ≡ true → n ≡ least_ttl m → 0 < n → may_keep m ≡ true
 may_keep_by m n h e l = both (is_whole m) (nat_lt 0 (least_ttl m)) h (lt-ltb 0 (least_ttl m) (subst (λ (k : ℕ). 0 < k) e l))
   where

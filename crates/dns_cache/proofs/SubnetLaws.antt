@@ -9,7 +9,7 @@ use Rattle.dns_cache.specs.Keys.{lists_subnet}
 abbrev has : List (ℕ × List ℕ) → Bool
 has ps = list_any (λ (p : ℕ × List ℕ). nat_eq p.0 8) ps
 
--- what is left of a list are options, and they have a client subnet exactly where the list has one
+-- what is left of a list are options, and they have a client subnet exactly if the list has one
 pub record IsWalked (o left : List ℕ) : Type 0 where
   pub fuel : ℕ
   pub pairs : List (ℕ × List ℕ)

@@ -6,7 +6,7 @@ use Rattle.dns_base.specs.Header.{header_of}
 use Rattle.dns_base.specs.Msg.{Msg, ResourceRecord}
 use Rattle.dns_base.specs.Sections.{questions_of}
 
--- a record whose TTL is lowered by so many s; an OPT record has no TTL
+-- a record whose TTL is lowered by that many s; an OPT record has no TTL
 abbrev pub aged_record : ℕ → ResourceRecord → ResourceRecord
 aged_record age r = if nat_eq r.rtype 41 then r else record r { ttl = r.ttl - age }
 

@@ -27,7 +27,7 @@ pub record KeptReply : Type 0 where
 abbrev pub Cached : Type 0
 Cached = LruCache AskedKey KeptReply
 
--- an empty cache of so many replies at most, within 1 to 65,536
+-- an empty cache of that many replies at most, within 1 to 65,536
 abbrev pub empty_cache : ℕ → Cached
 empty_cache capacity = lru_cache [] (in_range 1 65536 capacity)
 
@@ -65,7 +65,7 @@ comes_back m = fits_frame m && is_ok (copied (wire m))
 abbrev pub can_keep : Msg → List ℕ → Bool
 can_keep m request = may_keep m && comes_back (aged m request 0)
 
--- the message that a reply is, where it can be built
+-- the message that a reply is, if it can be built
 abbrev pub built_message : Result Msg ParseError → Option Msg
 built_message (Ok m) = if fits_frame m then Some m else None
 built_message (Err e) = None
@@ -97,12 +97,12 @@ young_message r e = if is_young e r.received_secs && fits_frame (aged_for e r) t
 
 -- ---- what a call does
 
--- the message that a call takes out of the cache: none where it isn't the first, or no young entry has the key
+-- the message that a call takes out of the cache: none if it isn't the first, or no young entry has the key
 abbrev pub cached_message : Cached → Req (Unit {0}) → ℕ → Option AskedKey → Option Msg
 cached_message c r k None = None
 cached_message c r k (Some key) = if nat_eq k 0 then option_and_then (young_message r) (lookup (same_key key) c.entries) else None
 
--- the entry of a key comes first, where there is one
+-- the entry of a key comes first, if there is one
 abbrev pub with_used : AskedKey → Cached → Option KeptReply → Cached
 with_used key c None = c
 with_used key c (Some e) = lru_cache ((key, e) ∷ remove_entry (same_key key) c.entries) c.cap
@@ -112,7 +112,7 @@ abbrev pub with_kept : AskedKey → Cached → Option KeptReply → Cached
 with_kept key c None = c
 with_kept key c (Some e) = lru_cache (take c.cap ((key, e) ∷ remove_entry (same_key key) c.entries)) c.cap
 
--- the cache behind a call, where a message was taken out of it, or not
+-- the cache after a call, if a message was taken out of it, or not
 abbrev pub behind_call : Cached → Req (Unit {0}) → TurnAnswer → Option AskedKey → Option Msg → Cached
 behind_call c r answer None cached = c
 behind_call c r answer (Some key) (Some m) = with_used key c (lookup (same_key key) c.entries)
@@ -128,7 +128,7 @@ abbrev pub without_entry : Cached → Option AskedKey → Cached
 without_entry c None = c
 without_entry c (Some key) = lru_cache (remove_entry (same_key key) c.entries) c.cap
 
--- a call's message out of the cache, and the cache behind it. Where there is no such message, the service's answer is given.
+-- a call's message out of the cache, and the cache after it. If there is no such message, the service's answer is given.
 pub record AskedCache : Type 0 where
   pub cached : Option Msg
   pub behind : Cached

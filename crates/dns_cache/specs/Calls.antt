@@ -25,7 +25,7 @@ TurnAnswers = Req (Unit {0}) → ℕ → TurnAnswer
 abbrev pub called : TurnAnswers → Cached → CacheCall → AskedCache
 called answer c call = asked_cache c call.request call.k (answer call.request call.k)
 
--- an empty cache behind calls, the last call first
+-- an empty cache after calls, the last call first
 abbrev pub cache_behind : TurnAnswers → ℕ → List CacheCall → Cached
 cache_behind answer capacity [] = lru_cache [] capacity
 cache_behind answer capacity (call ∷ before) = (called answer (cache_behind answer capacity before) call).behind

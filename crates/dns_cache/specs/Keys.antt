@@ -41,7 +41,7 @@ same_parts a b =
     (Decides-and _ _ (unsigned_Decides a.qtype b.qtype)
     (Decides-and _ _ (unsigned_Decides a.qclass b.qclass) (booleans_Decides a.dnssec_ok b.dnssec_ok)))
 
--- keys are the same exactly where they are equal
+-- keys are the same exactly if they are equal
 pub same_key_Decides : (a b : AskedKey) → Decides (same_key a b) (a ≡ b)
 same_key_Decides a b =
     let d = same_parts a b in (
@@ -61,7 +61,7 @@ same_key_writes a b h = ap key_writes ((same_key_Decides a b).0 h)
 
 -- ---- the key of a request
 
--- the DO bit, which is clear where there is no OPT record
+-- the DO bit, which is clear if there is no OPT record
 abbrev pub wants_dnssec : Option OptState → Bool
 wants_dnssec None = false
 wants_dnssec (Some s) = is_do s.head.flags
@@ -86,7 +86,7 @@ question_key ok q = record { name = folded q.qname; qtype = q.qtype; qclass = q.
 abbrev pub AsksOnce : List ℕ → Type 0
 AsksOnce o = (q : Question) × ((questions_of o).0 ≡ q ∷ [])
 
--- the key of octets that are a request; none where its question is unreadable
+-- the key of octets that are a request; none if its question is unreadable
 abbrev pub key_of : List ℕ → Option AskedKey
 key_of o = if asks_once o && not (names_subnet (opt_of o))
     then option_map (question_key (wants_dnssec (opt_of o))) (first_of (questions_of o).0) else None

@@ -27,7 +27,7 @@ abbrev pub marked_ones : Bool → List ResourceRecord → List ResourceRecord
 marked_ones true rs = rs
 marked_ones false rs = other_than 41 rs
 
--- records of typed data were marked behind other records
+-- records of typed data were marked after other records
 abbrev pub AreMarked : Bool → Result (List ResourceRecord) ParseError → List Mark → List Mark → Type 0
 AreMarked all (Ok rs) old new = AreTyped rs × (new ≡ old ++ map mark_of (marked_ones all rs))
 AreMarked all (Err e) old new = Unit {0}
@@ -44,12 +44,12 @@ pub record HasMarks (m : Msg) (marks : List Mark) : Type 0 where
   pub additional : AreTyped m.additional
   pub marked : marks ≡ map mark_of (records_of m)
 
--- where a message can be copied, its records are marked
+-- if a message can be copied, its records are marked
 abbrev pub MarksOf : Result Msg ParseError → List Mark → Type 0
 MarksOf (Ok m) marks = HasMarks m marks
 MarksOf (Err e) marks = Unit {0}
 
--- the records of three sections are marked one behind another, the OPT records of the last left out
+-- the records of three sections are marked one after another, the OPT records of the last left out
 abbrev pub SectionsMarked : Result (List ResourceRecord) ParseError → Result (List ResourceRecord) ParseError
     → Result (List ResourceRecord) ParseError → List Mark → Type 0
 SectionsMarked answers authority additional marks = (m : List Mark) × (n : List Mark) × AreMarked true answers [] m
@@ -104,7 +104,7 @@ aged_octets age [] o = []
 aged_octets age (k ∷ ks) o = take k.before o
     ++ (four (aged_ttl age k) ++ (drop (k.before + 4) (take k.size o) ++ aged_octets age ks (drop k.size o)))
 
--- marks of records that stand in octets one behind another
+-- marks of records that stand in octets one after another
 abbrev pub MarksFit : List Mark → List ℕ → Type 0
 MarksFit [] o = Unit {0}
 MarksFit (k ∷ ks) o = (k.before + 4 ≤ k.size) × (k.size ≤ length o) × MarksFit ks (drop k.size o)

@@ -6,18 +6,18 @@ use Rattle.dns_route.specs.ReplyMessage.{ReplyState, reply_message}
 use Rattle.dns_cache.specs.AskedCache.{Cached, KeptReply, bare_octets, is_young, with_used}
 use Rattle.dns_cache.specs.Keys.{AskedKey, same_key}
 
--- the age in s at a request's seconds, where the reply is young
+-- the age in s at a request's seconds, if the reply is young
 abbrev pub age_of : KeptReply → ℕ → Option ℕ
 age_of e secs = if is_young e secs then Some (secs - e.secs) else None
 
--- a reply is given whose built message this is, of its octets without the OPT record, and none where there is none
+-- a reply is given whose built message this is, of its octets without the OPT record, and none if there is none
 abbrev pub GivesMessage : Option Msg → Option ReplyState → Type 0
 GivesMessage None None = Unit {0}
 GivesMessage None (Some reply) = ⊥
 GivesMessage (Some m) None = ⊥
 GivesMessage (Some m) (Some reply) = (reply_message reply ≡ Ok m) × (reply.octets ≡ bare_octets m)
 
--- the entry of a key comes first where a reply of it was given
+-- the entry of a key comes first if a reply of it was given
 abbrev pub used_where : Option ReplyState → AskedKey → Cached → Cached
 used_where None key c = c
 used_where (Some reply) key c = with_used key c (lookup (same_key key) c.entries)

@@ -8,7 +8,7 @@ use Rattle.dns_base.specs.Replaced.{other_than}
 abbrev pub counted_ttl : ResourceRecord → ℕ
 counted_ttl r = if nat_lt r.ttl 2147483648 then r.ttl else 0
 
--- the smallest of numbers, 0 where there are none
+-- the smallest of numbers, 0 if there are none
 abbrev pub smallest : List ℕ → ℕ
 smallest [] = 0
 smallest (n ∷ ns) = fold min n ns
@@ -17,7 +17,7 @@ smallest (n ∷ ns) = fold min n ns
 abbrev pub records_of : Msg → List ResourceRecord
 records_of m = m.answers ++ (m.authority ++ m.additional)
 
--- the least TTL in s of a message's records but OPT, 0 where it has none
+-- the least TTL in s of a message's records but OPT, 0 if it has none
 abbrev pub least_ttl : Msg → ℕ
 least_ttl m = smallest (map counted_ttl (other_than 41 (records_of m)))
 

@@ -21,7 +21,7 @@ use dns_service::{OutOfMemory, Request};
 use std::alloc::Global;
 
 impl CachedReply {
-    /// The reply as a request gets it, where it is young.
+    /// The reply as a request gets it, if it is young.
     pub(crate) fn aged(
         &self,
         alloc: Global,
@@ -42,7 +42,7 @@ impl CachedReply {
         }
     }
 
-    /// The age in s at a moment's seconds, where the reply is young.
+    /// The age in s at a moment's seconds, if the reply is young.
     fn age(&self, secs: u64) -> Option<u32>
         ensures { result ≡ age_of self.now secs }
     {

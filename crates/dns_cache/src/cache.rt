@@ -26,7 +26,7 @@ pub struct Cache {
     entries: LruCache<CacheKey, CachedReply, Seed>,
 }
 
-/// No entry, of so many at most. Memory is taken as they come.
+/// No entry, of that many at most. Memory is taken as they come.
 fn no_entry(
     alloc: Global,
     capacity: NonZeroUsize,
@@ -48,15 +48,15 @@ impl Model for Cache {
 }
 
 impl Cache {
-    /// A cache of so many replies at most, from 1 to 65,536. Memory is taken as replies come. Keys are hashed from a fixed seed:
-    /// where the names come from queries of strangers, `new_with_seed` is the call to take.
+    /// A cache of that many replies at most, from 1 to 65,536. Memory is taken as replies come. Keys are hashed from a fixed seed:
+    /// if the names come from queries of strangers, `new_with_seed` is the call to take.
     pub fn new(alloc: Global, capacity: usize) -> Result<Cache, OutOfMemory>
         ensures { IfOk result (λ c. c ≡ empty_cache capacity) }
     {
         Cache::seeded(alloc, capacity, Seed::fixed())
     }
 
-    /// A cache of so many replies at most, from 1 to 65,536, whose keys are hashed from a random state.
+    /// A cache of that many replies at most, from 1 to 65,536, whose keys are hashed from a random state.
     /// `RandomState::new(&rt)` gives one. Nobody can then pick query names whose hashes collide.
     pub fn new_with_seed(
         alloc: Global,
@@ -195,7 +195,7 @@ impl Cache {
         Ok(reply)
     }
 
-    /// What the service answered at a turn, kept where it can be.
+    /// What the service answered at a turn, kept if it can be.
     fn keep_turn(
         &mut self,
         alloc: Global,

@@ -117,7 +117,7 @@ fn kept_marked(
     ))
 }
 
-/// A kept reply, where its message comes back at age 0.
+/// A kept reply, if its message comes back at age 0.
 fn kept_where(request: &Request<()>, kept: CachedReply) -> Option<CachedReply>
     requires asked { AsksOnce request.now.octets }
     requires secs { kept.secs ≡ request.now.received_secs }

@@ -61,7 +61,7 @@ impl Hash for CacheKey {
     }
 }
 
-/// The key of a request. None where its opcode isn't QUERY, where it hasn't one question or that is unreadable, and where
+/// The key of a request. None if its opcode isn't QUERY, if it hasn't one question or that is unreadable, and if
 /// its OPT record names a client subnet.
 pub(crate) fn key_of(alloc: Global, request: &Request<()>) -> Result<Option<CacheKey>, OutOfMemory>
     ensures { IfOk result (λ k. k ≡ key_of request.now.octets) }

@@ -65,7 +65,7 @@ fn mark_sections(
     Ok(marks)
 }
 
-/// Marks the records that a section gives, behind others: all of them, or those of other types than OPT. Where one is
+/// Marks the records that a section gives, after others: all of them, or those of other types than OPT. If one is
 /// unreadable, what is marked means nothing.
 fn mark_section(
     alloc: Global,
@@ -112,7 +112,7 @@ fn mark_standing(
     }
 }
 
-/// Want of memory stays apart from what is unreadable.
+/// Running out of memory stays apart from what is unreadable.
 fn refused(error: ParseError) -> Result<(), OutOfMemory>
     ensures { OnOk result (error ≢ ParseError.OutOfMemory) }
 {
@@ -155,7 +155,7 @@ fn marked(source: &Record) -> Mark
     }
 }
 
-/// The least TTL in s of marked records but OPT, 0 where there are none.
+/// The least TTL in s of marked records but OPT, 0 if there are none.
 pub(crate) fn least_of(marks: &[Mark]) -> u32
     ensures { result ≡ smallest (marked_ttls marks.now) }
 {
@@ -178,7 +178,7 @@ fn lesser(least: Option<u32>, ttl: u32) -> u32
     }
 }
 
-/// The place behind which so many octets follow as the marked records have.
+/// The place after which as many octets follow as the marked records have.
 pub(crate) fn start_before(marks: &[Mark], end: usize) -> usize
     ensures { result ≡ end - marked_size marks.now }
 {

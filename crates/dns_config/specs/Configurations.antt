@@ -37,7 +37,7 @@ stream_of l t = record {
   connection_config = connection_of l t;
 }
 
--- the secret of cookies, where there are any, and who is denied service without one
+-- the secret of cookies, if there are any, and who is denied service without one
 abbrev pub secret_of : Option Cookies → Option (List ℕ)
 secret_of o = option_map (λ c. c.secret.octets) o
 

@@ -8,7 +8,7 @@ use dns_name::{IpAddr, SocketAddr};
 use dns_word_values::{long_address, quad};
 use std::net;
 
-/// An address and a port at which is listened.
+/// An address and a port at which it listens.
 #[derive(Clone, Copy)]
 pub struct Endpoint {
     pub address: SocketAddr,

@@ -22,13 +22,13 @@ pub struct Config {
     pub listen: Vec<Endpoint>,
     /// The Unix socket at which it is controlled.
     pub control: Option<String>,
-    /// Where its metrics are told over HTTP.
+    /// Where its metrics are served over HTTP.
     pub metrics: Option<Endpoint>,
     /// How many workers serve the datagrams of each address.
     pub workers: Option<usize>,
     /// The identifier of the server, for clients that ask for it (RFC 5001).
     pub nsid: Option<Identifier>,
-    /// The networks to which its zones are transferred, but for those that have networks of their own.
+    /// The networks to which its zones are transferred, except for those that have networks of their own.
     #[serde(default)]
     pub allow_transfer: Vec<Prefix>,
     #[serde(default)]
@@ -40,7 +40,7 @@ pub struct Config {
     pub zone: Vec<ZoneEntry>,
 }
 
-/// A zone: the file that it is read of, or that its copy is kept in where it has a primary.
+/// A zone: the file that it is read of, or that its copy is kept in if it has a primary.
 #[derive(Drop, Deserialize)]
 #[serde(deny_unknown_fields, rename_all = "kebab-case")]
 pub struct ZoneEntry {
@@ -146,7 +146,7 @@ impl Limits {
     }
 }
 
-/// The secret of cookies, where there are any.
+/// The secret of cookies, if there are any.
 fn secret_of(cookies: &Option<Cookies>) -> Option<[u8; 16]>
     ensures { result ≡ secret_of cookies.now }
 {
@@ -175,7 +175,7 @@ fn denied_of(alloc: Global, cookies: &Option<Cookies>) -> Result<Vec<IpAddr>, Ou
 const MOST_WORKERS: usize = 256;
 
 impl Config {
-    /// How many workers serve the datagrams of each address: as many as there are processors, where nothing is said.
+    /// How many workers serve the datagrams of each address: as many as there are processors, if nothing is said.
     pub fn workers(&self, processors: usize) -> usize
         ensures { result ≡ value_of 1 256 processors self.now.workers }
     {
@@ -213,7 +213,7 @@ impl Config {
 pub enum ConfigError {
     /// It is no TOML, or none of the keys and values of a configuration.
     Toml(toml::de::Error),
-    /// It names no address at which is listened.
+    /// It names no address at which it listens.
     NoAddress,
 }
 

@@ -2,7 +2,7 @@
 //!
 //! - `read_config` reads a text as a `Config`. A key that isn't known is refused by its name, and so is a value of
 //!   another form. `ConfigError` says why, with line and column.
-//! - `Config` says where is listened, which zones are served of which files, which have a primary, and to whom they
+//! - `Config` says at which addresses it listens, which zones are served of which files, which have a primary, and to whom they
 //!   are transferred. `settings` gives the settings of the layers and of both transports, and `workers` how many serve
 //!   datagrams.
 //! - `read_address`, `read_endpoint`, `read_prefix` and `read_secret` read single values.
@@ -18,7 +18,7 @@
 //! - An address, an address with a port, a network and a secret are what their texts write; else there is none.
 //! - Each key of limits and timeouts sets its value, limited to the range of the setter. A key that isn't there leaves
 //!   the value that one starts from.
-//! - A configuration that was read names an address at which is listened.
+//! - A configuration that was read names an address at which it listens.
 //!
 //! # What a body could still get away with
 //!

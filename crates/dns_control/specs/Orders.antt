@@ -3,7 +3,7 @@ use Rattle.std.specs.Prelude.{ℕ, List, [], ◌∷◌, Option, Some, None, take
 use Rattle.std.specs.List.{ends_with}
 use Rattle.std.specs.Io.BufRead.{take_through}
 
--- a line but for its line feed; what has none is no line
+-- a line except for its line feed; what has none is no line
 abbrev pub ended_line : List ℕ → Option (List ℕ)
 ended_line line = if ends_with nat_eq line (10 ∷ []) then Some (take (length line - 1) line) else None
 

@@ -8,7 +8,7 @@ use std::io::{self, Write};
 use std::net::{Net, Shutdown};
 use std::os::unix::net::UnixStream;
 
-/// What a program says behind the line `ok`. None where it refuses.
+/// What a program says after the line `ok`. None if it refuses.
 pub fn granted(said: &str) -> Option<&str>
     ensures granted { IfSome result (λ text. said.now ≡ codes "ok\n" ++ text.now) }
     ensures refused { IfNone result ((text : List ℕ) → said.now ≢ codes "ok\n" ++ text) }
@@ -25,7 +25,7 @@ fn said_to<N: Net>(net: &N, alloc: Global, socket: &str, order: &str) -> io::Res
     io::read_to_string(alloc, stream)
 }
 
-/// Asks the program that runs at a control socket, and prints what it says. Fails where it refuses, with the reason that it gives.
+/// Asks the program that runs at a control socket, and prints what it says. Fails if it refuses, with the reason that it gives.
 pub fn ask<N: Net, P: Print + AllocGlobal>(
     net: &N,
     rt: &P,

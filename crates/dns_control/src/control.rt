@@ -24,7 +24,7 @@ pub struct Control {
     listener: UnixListener,
 }
 
-/// Goes on only where nobody answers at a socket: a connection to it was refused.
+/// Goes on only if nobody answers at a socket: a connection to it was refused.
 fn abandoned(connected: io::Result<UnixStream>) -> Result<(), ControlError>
     ensures { OnOk result (IsErrAnd connected (λ e. error_kind e ≡ ErrorKind.ConnectionRefused)) }
 {
@@ -39,7 +39,7 @@ fn abandoned(connected: io::Result<UnixStream>) -> Result<(), ControlError>
     }
 }
 
-/// Removes the socket at a path, where nobody answers there. Refuses any other file.
+/// Removes the socket at a path, if nobody answers there. Refuses any other file.
 fn take_over<R: Files + Net>(rt: &R, path: &str, found: &fs::Metadata) -> Result<(), ControlError> {
     if !found.file_type().is_socket() {
         return Err(ControlError::OtherFile);
@@ -101,7 +101,7 @@ pub struct Caller {
 }
 
 impl Caller {
-    /// The order that is asked. There is none where the line is too long, or has no end; it fails where nothing comes in time.
+    /// The order that is asked. There is none if the line is too long, or has no end; it fails if nothing comes in time.
     pub fn order(&mut self, alloc: Global) -> io::Result<Option<Vec<u8>>> {
         let limit = Some(Duration::from_secs(CALLER_SECONDS));
         self.stream.set_nonblocking(false)?;

@@ -19,7 +19,7 @@ pub enum ControlError {
     /// The system refuses.
     #[error("{0}")]
     System(#[from] io::Error),
-    /// Memory is wanting.
+    /// Out of memory.
     #[error("{0}")]
     Memory(#[from(alloc)] AllocError),
 }

@@ -4,15 +4,15 @@
 //!   `remove` takes the socket away.
 //! - `Caller` is who asks: `order` is what it says, and `say` answers.
 //! - `ask` asks a running program, and prints what it says.
-//! - `read_order` reads an order, and `granted` what is said where it is granted.
+//! - `read_order` reads an order, and `granted` what is said if it is granted.
 //!
 //! ```text
 //! Control::bind -> caller -> order -> say                  (the running program)
 //! ask -> a line with the order -> what is said, printed    (who speaks to it)
 //! ```
 //!
-//! An order is a line of at most 16 octets, its line feed included. Which orders there are is up to the program. Where one is
-//! granted, the first line of what is said is `ok`; what stands behind it is printed. Anything else is why it is refused.
+//! An order is a line of at most 16 octets, its line feed included. Which orders there are is up to the program. If one is
+//! granted, the first line of what is said is `ok`; what stands after it is printed. Anything else is why it is refused.
 //!
 //! A socket that a killed program left is taken over: nobody answers there, as the system says by refusing a connection. One that
 //! is answered is refused, and so is any other file; both stay as they are.
@@ -21,8 +21,8 @@
 //!
 //! # What is proved
 //!
-//! - An order is the octets before the first line feed, where one is among the first 16 octets of what is said; else there is none.
-//! - What is printed is what stands behind the line `ok`, and else an order is refused.
+//! - An order is the octets before the first line feed, if one is among the first 16 octets of what is said; else there is none.
+//! - What is printed is what stands after the line `ok`, and else an order is refused.
 //! - No socket is removed but one at which the system refused a connection.
 //!
 //! # What a body could still get away with

@@ -9,7 +9,7 @@ use std::io::{self, BufRead, BufReader, Read};
 /// How many octets the line of an order has at most, its line feed included.
 pub const LINE_LIMIT: usize = 16;
 
-/// Reads an order: the octets before the first line feed, where one is among the first `LINE_LIMIT` octets; else there is none.
+/// Reads an order: the octets before the first line feed, if one is among the first `LINE_LIMIT` octets; else there is none.
 pub fn read_order<S: Read + Drop>(alloc: Global, stream: S) -> io::Result<Option<Vec<u8>>>
     ensures { IfOk result (λ order. IfSome (S.remaining stream) (λ said. option_map vec_items order ≡ order_in said)) }
 {

@@ -18,7 +18,7 @@ made_at secret client t a h = from_be_bytes-to_be_bytes_4 t h
 agrees : (secret client : List ℕ) (t : ℕ) (a : IpAddr) → HashAgrees secret client a (server_cookie secret client t a)
 agrees secret client t a = refl
 
--- where the hash agrees, a check says what the closure says
+-- if the hash agrees, a check says what the closure says
 by_closure : (accepts : Serial → Bool → Type 0) (secret client : List ℕ) (a : IpAddr) (s : List ℕ) (result : Bool) → HashAgrees secret client a s → IsChecked accepts secret client a s result ↔ accepts (record { 0 = timestamp_of s }) result
 by_closure accepts secret client a s result h = (
   (λ c. subst (accepts (record { 0 = timestamp_of s })) (sym (same_truth result c.accepted ((λ t. (c.verdict.0 t).0), (λ t. c.verdict.1 (t, h))))) c.asked),

@@ -24,7 +24,7 @@ abbrev pub with_some : Taken (List ℕ) → Taken (Option (List ℕ))
 with_some (Ok p) = Ok (Some p.0, p.1)
 with_some (Err e) = Err e
 
--- there is none where nothing is left
+-- there is none if nothing is left
 abbrev pub server_part : List ℕ → Taken (Option (List ℕ))
 server_part [] = Ok (None, 0)
 server_part (x ∷ d) = with_some (server_data (x ∷ d))
@@ -49,7 +49,7 @@ cookie_octets c = c.client ++ server_octets c.server
 
 -- ---- the cookies that there are
 
--- a server part, where there is one, has 8 to 32 octets
+-- a server part, if there is one, has 8 to 32 octets
 abbrev pub IsServerPart : Option (List ℕ) → Type 0
 IsServerPart o = IfSome o (λ s. (8 ≤ length s) × (length s ≤ 32))
 

@@ -70,7 +70,7 @@ pub record Cookie : Type 0 where
   pub client : List ℕ
   pub server : Option (List ℕ)
 
--- its text: the hexadecimal digits of the client part and of the server part
+-- a cookie as text: the hexadecimal digits of the client part and of the server part
 abbrev pub cookie_text : List ℕ → Option (List ℕ) → List ℕ
 cookie_text client None = encode_upper client
 cookie_text client (Some s) = encode_upper client ++ encode_upper s

@@ -81,7 +81,7 @@ impl ClientCookie {
         self.as_slice().len() as u16
     }
 
-    /// Appends the octets to `target`, which is left as it was where memory is wanting.
+    /// Appends the octets to `target`, which is left as it was if memory runs out.
     pub fn compose(&self, _alloc: Global, target: &mut Vec<u8>) -> Result<(), OutOfMemory>
         ensures ok { OnOk result (target.new.items ≡ target.old.items ++ client_octets self.now) }
         ensures err { OnErr result (target.new.items ≡ target.old.items) }

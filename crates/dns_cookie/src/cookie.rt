@@ -92,7 +92,7 @@ impl Cookie {
     /// Whether this is a cookie that a server with this `secret` gave to this client: its server part
     /// is a standard server cookie, `timestamp_ok` accepts its timestamp, and its hash agrees.
     ///
-    /// Where it is false the request is as one without a server part (RFC 7873, section 5.2.3).
+    /// If it is false the request is as one without a server part (RFC 7873, section 5.2.3).
     pub fn check_server_hash<F: FnOnce(Serial) -> bool>(
         &self,
         client_ip: IpAddr,
@@ -163,7 +163,7 @@ impl ComposeOptData for Cookie {
         }
     }
 
-    /// Appends the octets to `target`, which is left as it was where memory is wanting.
+    /// Appends the octets to `target`, which is left as it was if memory runs out.
     fn compose_option(&self, alloc: Global, target: &mut Vec<u8>) -> Result<(), OutOfMemory> {
         let len = target.len();
         self.client.compose(alloc, target)?;

@@ -15,7 +15,7 @@ use crate::standard_server_cookie::StandardServerCookie;
 use crate::timestamp::timestamp_ok;
 use dns_name::{IpAddr, Serial};
 
-/// With `timestamp_ok` a check is true exactly where the server part is a standard server cookie that
+/// With `timestamp_ok` a check is true exactly if the server part is a standard server cookie that
 /// is timely at `now` and whose hash agrees.
 pub fn check_at(cookie: &Cookie, client_ip: IpAddr, secret: &[u8; 16], now: Serial) -> bool
     ensures { IsTrue result ↔ IsGood secret.now client_ip now.0 cookie.now }

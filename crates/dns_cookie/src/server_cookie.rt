@@ -79,7 +79,7 @@ impl ServerCookie {
         Ok(ServerCookie::from_octets(octets))
     }
 
-    /// Reads a server cookie, or none where nothing is left. A refused call leaves the parser.
+    /// Reads a server cookie, or none if nothing is left. A refused call leaves the parser.
     pub fn parse_opt(parser: &mut Parser) -> Result<Option<ServerCookie>, ParseError>
         ensures { ParsesData (server_part (rest parser.old)) parser.old parser.new result }
     {
@@ -89,7 +89,7 @@ impl ServerCookie {
         Ok(Some(ServerCookie::parse(parser)?))
     }
 
-    /// The standard server cookie that this is, where it has 16 octets (RFC 9018, section 4).
+    /// The standard server cookie that this is, if it has 16 octets (RFC 9018, section 4).
     pub fn try_to_standard(&self) -> Option<StandardServerCookie>
         ensures { result ≡ standard_part self.now }
     {
@@ -115,7 +115,7 @@ impl ServerCookie {
         &self.octets[..usize::from(self.len)]
     }
 
-    /// Appends the octets to `target`, which is left as it was where memory is wanting.
+    /// Appends the octets to `target`, which is left as it was if memory runs out.
     pub fn compose(&self, _alloc: Global, target: &mut Vec<u8>) -> Result<(), OutOfMemory>
         ensures ok { OnOk result (target.new.items ≡ target.old.items ++ self.now) }
         ensures err { OnErr result (target.new.items ≡ target.old.items) }

@@ -1,4 +1,4 @@
--- Where all look after each event that all hear, all are sent what they are sent where they hear of each at once.
+-- If all look after each event that all hear, all are sent what they are sent if they hear of each at once.
 use Rattle.dns_session.specs.Serving.{Serving}
 use Rattle.std.proofs.Common.{◌≡◌, ℕ, ◌+◌, ◌<◌, ◌≤◌, List, [], ◌∷◌, ◌++◌, length, length-append, Bool, true, false, refl, ap, sym, ◌∙◌, subst, arith, lt-ltb, append_assoc}
 use Rattle.std.specs.Prelude.{nat_eq, filter, map, if◌then◌else◌}
@@ -185,7 +185,7 @@ module _ (answers : Serving) (settings : Settings) where
   unfolding membership members conf placed_slate slate placed
   none_same = record { same_members = refl; shown = refl; few = omega arith; unused = λ c. refl; slates = λ c m. cc; heard_all = λ c m. cc }
 
-  -- where all members look after each event that all hear, by rising number
+  -- if all members look after each event that all hear, by rising number
   pub at_once_all : (cs : List ℕ) (es : List Event) → IsStrictlySortedBy nat_cmp cs → ((c : ℕ) → is_member answers settings c es ≡ true → list_any (nat_eq c) cs ≡ true) → length es ≤ last_version
       → outs answers settings (undelayed cs es) ≡ out answers settings es
   unfolding outs out AllIn

@@ -1,4 +1,4 @@
--- Whoever looks after each event that all hear is sent what it is sent where it hears of each at once, whoever else looks then.
+-- Whoever looks after each event that all hear is sent what it is sent if it hears of each at once, whoever else looks then.
 use Rattle.dns_session.specs.Serving.{Serving}
 use Rattle.std.proofs.Common.{◌≡◌, ℕ, ◌+◌, ◌≤◌, List, [], ◌∷◌, ◌++◌, length, Bool, true, false, refl, ap, sym, ◌∙◌, ◌≢◌, arith, lt-ltb, ⊎_elim}
 use Rattle.std.specs.Prelude.{if◌then◌else◌, ◌==◌, map, not, ◌&&◌, ◌||◌, nat_eq}

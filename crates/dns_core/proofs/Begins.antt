@@ -127,7 +127,7 @@ module _ {W R F : Type 0} (answer : PolledRequest F R → ℕ → Answer) (answe
   pub exchange_slots : (old : Server W R F) (q : List Event) (e : Event) → IsNew q e old → holds_slot (rule answers e (slate answers settings e.client q)).0 ≡ false → Serves answer answers settings q old → old.book.taken ≡ taken answers settings (q ++ e ∷ []) (put e.client (members answers settings q))
   exchange_slots old q e new free h = h.slots ∙ sym (taken_put_not answers settings q e (members answers settings q) new.narrow (ap holds_slot (slate_same answers settings q e) ∙ free) new.no_member)
 
-  -- a connection joins where a slot is free, and takes it
+  -- a connection joins if a slot is free, and takes it
   connection_joins : (old : Server W R F) (q : List Event) (e : Event) (room : Bool) → IsNew q e old → holds_slot (rule answers e (slate answers settings e.client q)).0 ≡ true → has_slot old.book ≡ room → Serves answer answers settings q old → joins answers settings q (members answers settings q) e ≡ room
   connection_joins old q e room new held slot h =
       ap (λ (b : Bool). b && (not (holds_slot (slate answers settings e.client (q ++ e ∷ []))) || has_room answers settings q (members answers settings q))) new.is_new

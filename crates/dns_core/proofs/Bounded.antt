@@ -39,7 +39,7 @@ then_on s t u g h = record { bound = h.bound ∙ g.bound; within = λ x. h.withi
 closes : (why : Why) (s : Slate) → Bounds s (close why s).0
 closes why s = record { bound = refl; within = λ h. omega arith }
 
--- a frame more, where there is room
+-- a frame more, if there is room
 appends : (at : ℕ) (m : List ℕ) (s : Slate) → room at s ≡ true → Bounds s (append_frame at m s)
 appends at m s free =
     let short = (and_parts (nat_lt (length s.queue) s.bound) (allows at (spending s)) free).0 in

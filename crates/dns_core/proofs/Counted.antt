@@ -44,7 +44,7 @@ filter_less p p' c (m ∷ ms) so there other passes fails =
     rw (other m apart) (elim (p m) as (λ b. length (cond b (m ∷ filter p' ms) (filter p' ms)) + 1 ≡ length (cond b (m ∷ filter p ms) (filter p ms))) [ true ↦ omega arith | false ↦ more ]))
     (cases_eq m c)
 
--- how many pass where one may no longer
+-- how many pass if one may no longer
 pub one_less : (p p' : ℕ → Bool) (c : ℕ) (ms : List ℕ) (x : Bool) → IsStrictlySortedBy nat_cmp ms → list_any (nat_eq c) ms ≡ true → ((y : ℕ) → y ≢ c → p' y ≡ p y)
     → (x ≡ true → (p c ≡ true) × (p' c ≡ false)) → (x ≡ false → p' c ≡ p c)
     → length (filter p' ms) ≡ (if x then length (filter p ms) - 1 else length (filter p ms))

@@ -16,7 +16,7 @@ use Rattle.dns_events.specs.declared.settings.Settings.{Settings}
 use Rattle.dns_core.proofs.Gained.{conf_kept, members_kept, slate_other, slate_same, unused_kept}
 use Rattle.dns_core.proofs.Heard.{gained_own}
 use Rattle.dns_core.proofs.Nothing.{Alike, out_alike, out_split}
-use Rattle.dns_core.proofs.Served.{own_not_new}
+use Rattle.dns_core.proofs.AfterOwnEvent.{own_not_new}
 
 module _ (answers : Serving) (settings : Settings) (n at secs : ℕ) where
   abbrev event : List ℕ → Event

@@ -68,7 +68,7 @@ module _ (answers : Serving) (settings : Settings) where
   pub used_more : (c : ℕ) (q : List Event) (e : Event) → is_unused (slate answers settings c q).phase ≡ false → is_unused (slate answers settings c (q ++ e ∷ [])).phase ≡ false
   used_more c q e u = used_case c q e u (concerns c e) refl
 
-  -- a client begins where its number was unused before, and is used after
+  -- a client begins if its number was unused before, and is used after
   pub new_was : (q : List Event) (e : Event) → is_new answers settings q e ≡ true → is_unused (slate answers settings e.client q).phase ≡ true
   unfolding is_new
   new_was q e n = (and_parts (is_unused (slate answers settings e.client q).phase) (not (is_unused (slate answers settings e.client (q ++ e ∷ [])).phase)) n).0

@@ -51,7 +51,7 @@ left_after b at v w spent mark allowed e fits most can =
 pub carries : (b w : ℕ) (c d : Connection) → d.response_budget ≡ c.response_budget → d.budget_window ≡ c.budget_window → AllowsAtMost b w c → AllowsAtMost b w d
 carries b w c d p q a = rw (p, q) a
 
--- where the budget is at most b: it and the configurations stay, and what isn't open doesn't open
+-- if the budget is at most b: it and the configurations stay, and what isn't open doesn't open
 pub record Grows (b at : ℕ) (s t : Slate) : Type 0 where
   pub budget : t.connection.response_budget ≡ s.connection.response_budget
   pub window : t.connection.budget_window ≡ s.connection.budget_window
@@ -93,7 +93,7 @@ flushed_on b at why m [] s is = shuts b at s (flushed why m [] s).0 refl refl re
 flushed_on b at why m (n ∷ ms) s is = shorter b at s (flushed why m (n ∷ ms) s).0 refl refl refl refl (front_goes m (n ∷ ms) s.queue is) refl refl
 
 module _ (b at : ℕ) (fits : IsBudget (Some b)) where
-  -- a reply more, where there is room
+  -- a reply more, if there is room
   appends : (m : List ℕ) (s : Slate) → s.phase ≡ Open → room at s ≡ true → Grows b at s (append_frame at m s)
   appends m s p free =
       let can = (and_parts (nat_lt (length s.queue) s.bound) (allows at (spending s)) free).1 in

@@ -60,7 +60,7 @@ flat_nil : (ms : List ℕ) → flat_map {X = ℕ} {A = Output} (λ c. []) ms ≡
 flat_nil [] = refl
 flat_nil (m ∷ ms) = flat_nil ms
 
--- nothing is told where nobody that passes is told anything
+-- nothing is told if nobody that passes is told anything
 pub flat_none : (f : ℕ → List Output) (p : ℕ → Bool) (ms : List ℕ) → ((c : ℕ) → p c ≡ true → list_any (nat_eq c) ms ≡ true → f c ≡ []) → flat_map f (filter p ms) ≡ []
 flat_none f p ms h = flat_same f (λ c. []) p ms h ∙ flat_nil (filter p ms)
 

@@ -33,10 +33,10 @@ use Rattle.dns_events.specs.declared.settings.Settings.{Settings}
 use Rattle.dns_core.specs.declared.server.Server.{Server}
 use Rattle.dns_core.proofs.Late.{late_datagram, late_offer}
 use Rattle.dns_core.proofs.Plain.{plain, unused_is, begun, offered, used_datagram, used_offer}
-use Rattle.dns_core.proofs.Served.{idle_goes}
+use Rattle.dns_core.proofs.AfterOwnEvent.{idle_goes}
 use Rattle.dns_core.proofs.Begins.{fresh_from, new_from, begin_goes, exchange_joins, exchange_slots, connection_room, connection_slots, away_goes}
 
--- a look at a book shows a shutdown where that is shut down
+-- a look at a book shows a shutdown if that is shut down
 pub shut_as : (look book : Look) → look ≡ book → look.closed ≡ true → book.closed ≡ true
 shut_as look book is h = ap (λ (x : Look). x.closed) (sym is) ∙ h
 
@@ -99,7 +99,7 @@ module _ {W R F : Type 0} (answer : PolledRequest F R → ℕ → Answer) (answe
       (exchange_slots answer answers settings old q e new no_slot h) refl refl version
       (subst (λ (t : Effect). (outs ≡ t.1) × Stands answer answers core t.0) (sym is) (st s f.fresh f.shown)) w h
 
-  -- an offer makes a connection, where a slot is free
+  -- an offer makes a connection, if a slot is free
   pub offer_goes : (old : Server W R F) (m : BTreeMap ℕ (ClientCore W R F)) (u : BTreeSet ℕ) (b look : Look) (core : ClientCore W R F) (q : List Event) (e : Event) (addr : SocketAddr) (outs : List Output) → e.kind ≡ Offer addr
       → contains nat_cmp old.used e.client ≡ false → Admits old.book (Admitted look) → b ≡ state_after old.book Admit → outs ≡ []
       → ((s : Slate) → IsUnused s → s.conf ≡ conf_of look → Stands answer answers core (opened e.client addr e.at s))

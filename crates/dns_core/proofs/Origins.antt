@@ -53,7 +53,7 @@ get_set_other (z ∷ xs) zero (suc j) y ne = refl
 get_set_other (z ∷ xs) (suc k) zero y ne = refl
 get_set_other (z ∷ xs) (suc k) (suc j) y ne = get_set_other xs k j y (λ (e : j ≡ k). ne (ap suc e))
 
--- the element that is pushed, where there was none
+-- the element that is pushed, if there was none
 pub push_cases : {X : Type 0} (xs : List X) (y : X) (j : ℕ) → (slice_get (xs ++ y ∷ []) j ≡ slice_get xs j) ⊎ ((slice_get (xs ++ y ∷ []) j ≡ Some y) × (slice_get xs j ≡ None))
 push_cases [] y zero = inr (refl, refl)
 push_cases [] y (suc j) = inl refl
@@ -72,7 +72,7 @@ pub take_joined : {X : Type 0} (xs : List X) (n m : ℕ) (x : X) → m ≡ lengt
 take_joined xs n m x h =
     ap (λ (l : ℕ). take l (xs ++ replicate m x)) h ∙ take-append-add xs (replicate m x) n ∙ ap (λ (ys : List _). xs ++ ys) (take_some n m x (omega arith))
 
--- the frames of a queue come from where what waited did, with as many as it is long behind that, cut to its length
+-- the frames of a queue come from where what waited did, with as many as it is long after that, cut to its length
 pub queue_origins_are : (queue : List (List ℕ)) (n : ℕ) (waited : List (Option Origin)) (new : Option Origin) → length queue ≤ n → queue_origins queue waited new ≡ take (length queue) (waited ++ replicate n new)
 queue_origins_are [] n waited new h = refl
 queue_origins_are (f ∷ queue) zero waited new h = absurd (omega (arith, h))

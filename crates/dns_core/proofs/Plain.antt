@@ -33,7 +33,7 @@ pub record GoesOn (s t : Slate) : Type 0 where
   pub used : is_unused s.phase ≡ false → is_unused t.phase ≡ false
   pub slot : is_going s.phase ≡ true → holds_slot t ≡ holds_slot s
 
--- where nothing of it changes
+-- if nothing of it changes
 same : (s t : Slate) → t.conf ≡ s.conf → t.phase ≡ s.phase → t.freed ≡ s.freed → GoesOn s t
 same s t c p f = record { conf = c; used = λ h. ap is_unused p ∙ h; slot = λ g. rw (p, f) refl }
 

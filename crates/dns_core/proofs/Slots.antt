@@ -29,7 +29,7 @@ use Rattle.dns_core.proofs.Plain.{is_going, slot_kept}
 use Rattle.dns_core.proofs.Settled.{exchange_turned}
 use Rattle.dns_core.proofs.Spent.{spent_idle}
 
--- a slot is given back exactly where the client is freed
+-- a slot is given back exactly if the client is freed
 pub record Slot (s t : Slate) (freed : Bool) : Type 0 where
   pub gone : freed ≡ true → (holds_slot s ≡ true) × (holds_slot t ≡ false)
   pub kept : freed ≡ false → holds_slot t ≡ holds_slot s

@@ -377,7 +377,7 @@ module _ {W R F : Type 0} (answer : PolledRequest F R → ℕ → Answer) (answe
         → (outs ≡ step_gained answers settings q (Own e)) × ServesSteps answer answers settings (q ++ Own e ∷ []) (record old { book = b })
     offer_closed old b q e addr outs kind free closed is none h = closed_goes old b q e outs (ap is_beginning kind) none free closed (is ∙ rw closed refl) h
 
-    -- an offer makes a connection, where a slot is free
+    -- an offer makes a connection, if a slot is free
     pub offer_goes : (old : Server W R F) (m : BTreeMap ℕ (ClientCore W R F)) (u : BTreeSet ℕ) (b look : State) (core : ClientCore W R F) (q : List Step) (e : Event) (addr : SocketAddr) (outs : List Output) → e.kind ≡ Offer addr
         → contains nat_cmp old.used e.client ≡ false → Admits old.book (Admitted look) → b ≡ state_after old.book call.Admit → outs ≡ []
         → ((s : Slate) → IsUnused s → s.conf ≡ conf_of look → Stands answer answers core (opened e.client addr e.at s))

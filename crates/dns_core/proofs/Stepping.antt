@@ -242,7 +242,7 @@ module _ {W R F : Type 0} (answer : PolledRequest F R → ℕ → Answer) (answe
   core_held n (Is_closed freed) s h = λ o. let z : Closed ≡ Open = sym h.phase ∙ open_is s.phase o in cc
   core_held n Is_lost s h = absurd h
 
-  -- what is said and left, where the look tells what these entries tell
+  -- what is said and left, if the look tells what these entries tell
   look_says : (o w : Option (ClientCore W R F)) (m : Bool) (look : State) (b : State) (es : List Event) (outs : List Output) (s : Slate) (v : ℕ) → LooksOne answer answers o look outs w → Holds answer answers o m s → IsAt o v
       → Enter b es → look_effect answers v look s ≡ effect answers es s
       → (outs ≡ (if m then sent_after answers s es else [])) × Holds answer answers w m (slate_after answers s es) × IsAt w look.version

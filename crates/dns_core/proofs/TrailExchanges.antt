@@ -31,7 +31,7 @@ datagram_reply : (t : TransportSpecificContext) (x : Option Msg) → is_stream t
 datagram_reply (Udp hint) x h = refl
 datagram_reply (NonUdp timeout) x h = cc
 
--- what is sent at once stands behind what went
+-- what is sent at once stands after what went
 abbrev pub sent_now : Option Origin → List Origin → Trail → Trail
 sent_now x ds t = trail (t.went ++ x ∷ []) [] (t.dropped ++ ds)
 

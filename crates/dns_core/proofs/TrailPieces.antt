@@ -42,7 +42,7 @@ module _ (answers : Serving) where
   pub asks_push : (stream : Bool) (rs : List SlateRequest) (q : Req (Unit {0})) (t : Trail) → is_stream q.transport ≡ stream → AsksAll answers stream rs t → AsksAll answers stream (rs ++ unpolled q ∷ []) t
   asks_push stream rs q t is h = push_case stream rs q t is h
 
-  -- a connection behind some frames: its queue has more, which refuse responses, and its requests are those that were made
+  -- a connection after some frames: its queue has more, which refuse responses, and its requests are those that were made
   record Takes (front : List (List ℕ)) (t : Trail) (s : Slate) : Type 0 where
     phase : s.phase ≡ Open
     news : List (List ℕ)

@@ -19,7 +19,7 @@ use Rattle.dns_core.specs.Trails.{Origin, Trail, drops, in_order, origin, on_wir
 use Rattle.dns_core.proofs.Trailing.{Asks, AsksAll, AsksAt, Has, Keeps, Kept, joined_on, joins, polls_joined, stays, still, still_polls, waits_with}
 use Rattle.dns_core.proofs.Repolled.{held_queued, origin_free, others_none, polls_dropped, polls_held, polls_queued, polls_silent, rises_with, turned}
 
--- a request over a stream has no limit, and its replies stand behind their length
+-- a request over a stream has no limit, and its replies stand after their length
 stream_reply : (t : TransportSpecificContext) (n : ℕ) (x : Option ℕ → Option Msg) → is_stream t ≡ true → option_map (on_wire t) (x (limit_over t n)) ≡ option_map (λ m. framed (wire m)) (x None)
 stream_reply (Udp hint) n x h = cc
 stream_reply (NonUdp timeout) n x h = refl

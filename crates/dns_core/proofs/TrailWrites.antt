@@ -1,4 +1,4 @@
--- The writes of a connection keep its trail: the first of what waits goes, and where the connection is closed, all that waits is
+-- The writes of a connection keep its trail: the first of what waits goes, and if the connection is closed, all that waits is
 -- forgotten.
 use Rattle.std.proofs.Common.{◌≡◌, ℕ, List, [], ◌∷◌, ◌++◌, length, replicate, Option, refl, ap, sym, ◌∙◌, subst, append_assoc}
 use Rattle.std.proofs.Math.Seq.{take_at}

@@ -1,5 +1,5 @@
 -- What a slate keeps of its trail: what went and what waits comes from its polls, each request's polls rise, and each reply is
--- somewhere. Where an event moves the trail: others join behind what waits, what waits goes from the front, and what waits is
+-- somewhere. Where an event moves the trail: others join after what waits, what waits goes from the front, and what waits is
 -- forgotten.
 use Rattle.std.proofs.Common.{◌≡◌, ◌≢◌, ℕ, ◌+◌, ◌<◌, ◌⊎◌, inl, inr, true, false, Bool, List, [], ◌∷◌, ◌++◌, length, drop, take, replicate, Option, Some, None, refl, ap, sym, ◌∙◌, subst, append_assoc, length-append}
 use Rattle.std.specs.Prelude.{filter, slice_get}
@@ -26,7 +26,7 @@ trail_by effect x ds t =
     (take (length effect.0.queue) (drop gone t.waiting ++ replicate (length effect.0.queue) x))
     (t.dropped ++ ds)
 
--- others join behind what waits
+-- others join after what waits
 abbrev pub waits_with : List (Option Origin) → List Origin → Trail → Trail
 waits_with ms ds t = trail t.went (t.waiting ++ ms) (t.dropped ++ ds)
 
@@ -84,7 +84,7 @@ module _ (answers : Serving) where
   abbrev pub AsksAll : Bool → List SlateRequest → Trail → Type 0
   AsksAll stream rs t = (k : ℕ) → AsksAt stream k (slice_get rs k) t
 
-  -- by the state: where all ends, the requests are forgotten
+  -- by the state: if all ends, the requests are forgotten
   abbrev pub Has : Phase → List SlateRequest → Trail → Type 0
   Has Unused rs t = (rs ≡ []) × (t.waiting ≡ []) × ((k : ℕ) → polls_of k (in_order t) ≡ [])
   Has Exchange rs t = (t.waiting ≡ []) × AsksAll false rs t

@@ -42,12 +42,12 @@ Follows s = is_open s.phase ≡ true → Agrees s
 unopened : (s : Slate) → is_open s.phase ≡ false → Follows s
 unopened s shut = λ o. cc
 
--- an event at a moment, where the configuration in force allows at most b
+-- an event at a moment, if the configuration in force allows at most b
 record Steps (b at : ℕ) (s t : Slate) : Type 0 where
   follows : Follows t
   gains : (w : ℕ) → AllowsAtMost b w s.conf.stream.connection_config → growth s t + left_in b (at / w) t ≤ left_in b (at / w) s
 
--- where it allows whatever it may
+-- if it allows whatever it may
 record Idles (b at : ℕ) (s t : Slate) : Type 0 where
   follows : Follows t
   gains : (w : ℕ) → growth s t + left_in b (at / w) t ≤ left_in b (at / w) s

@@ -12,7 +12,7 @@ use Rattle.dns_session.specs.Rule.{rule}
 abbrev pub AllowsAtMost : ℕ → ℕ → Connection → Type 0
 AllowsAtMost b w c = IsSomeAnd c.response_budget (λ allowed. allowed ≤ b) × (c.budget_window ≡ w)
 
--- and a reconfigure leaves it so
+-- a reconfigure allows at most b replies in windows of w milliseconds; of other events nothing is asked
 abbrev pub StaysAtMost : ℕ → ℕ → EventKind → Type 0
 StaysAtMost b w (Reconfigure dgram stream) = AllowsAtMost b w stream.connection_config
 StaysAtMost b w _ = Unit {0}

@@ -1,4 +1,4 @@
--- What all clients are sent, where each hears of the server's changes only when it looks. Lists of steps go from the oldest to the
+-- What all clients are sent, if each hears of the server's changes only when it looks. Lists of steps go from the oldest to the
 -- newest; a step s comes after the steps q.
 use Rattle.std.specs.Prelude.{ℕ, List, [], ◌∷◌, ◌++◌, length, drop, nat_eq, if◌then◌else◌, Bool, true, false, not, ◌&&◌}
 use Rattle.std.specs.List.{list_any}
@@ -47,7 +47,7 @@ enters s b r (Offer addr) = is_admitted r
 enters s b r (Datagram addr o) = is_unused s.phase && not b.closed
 enters s b r _ = false
 
--- a client is turned away where every slot is taken
+-- a client is turned away if every slot is taken
 abbrev pub refused_offer : ℕ → Reply → List Output
 refused_offer c (reply.Admission (Full taken limit accepted)) = TurnedAway c accepted ∷ []
 refused_offer c _ = []

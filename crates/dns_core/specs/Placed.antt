@@ -42,7 +42,7 @@ abbrev pub begins : ℕ → Step → Bool
 begins c (Own e) = is_beginning e.kind && (e.client == c)
 begins c (Look at secs d) = false
 
--- its first offer or datagram looks by itself, and a later one is no look
+-- a step is a look of a client: an own look, or the client's first offer or datagram
 abbrev pub looks : ℕ → Bool → Step → Bool
 looks c began (Own e) = begins c (Own e) && not began
 looks c began (Look at secs d) = d == c

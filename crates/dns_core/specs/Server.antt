@@ -17,7 +17,7 @@ use Rattle.dns_core.specs.Serves.{Holds, IsAt}
 use Rattle.dns_events.specs.declared.settings.Settings.{Settings}
 use Rattle.dns_core.specs.declared.server.Server.{Server}
 
--- what is appended to outputs is what is sent for q and e, behind what is sent for q
+-- what is appended to outputs is what is sent for q and e, after what is sent for q
 pub record SendsFor (answers : Serving) (settings : Settings) (q : List Event) (e : Event) (outs all : List Output) : Type 0 where
   pub more : List Output
   pub appended : all ≡ outs ++ more
@@ -41,7 +41,7 @@ module _ {W R F : Type 0} (answer : PolledRequest F R → ℕ → Answer) (answe
       → (outs ≡ gained answers settings q e) × Serves settings (q ++ e ∷ []) new
 
   -- whatever the settings and the events before, of which there are fewer than versions, what is appended is what is sent for e
-  -- behind them. So a server that is stepped through a list has appended what is sent for that list
+  -- after them. So a server that is stepped through a list has appended what is sent for that list
   abbrev pub AddsOutputs : Server W R F → Server W R F → Event → List Output → List Output → Type 0
   AddsOutputs old new e outs all = (settings : Settings) (q : List Event) → length q < last_version → Serves settings q old
       → SendsFor answers settings q e outs all × Serves settings (q ++ e ∷ []) new

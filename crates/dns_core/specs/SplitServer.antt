@@ -16,7 +16,7 @@ use Rattle.dns_core.specs.Serves.{Holds, IsAt}
 use Rattle.dns_core.specs.declared.server.Server.{Server}
 use Rattle.dns_events.specs.declared.settings.Settings.{Settings}
 
--- what is appended to outputs is what is sent for q and s, behind what is sent for q
+-- what is appended to outputs is what is sent for q and s, after what is sent for q
 pub record SendsForStep (answers : Serving) (settings : Settings) (q : List Step) (s : Step) (before all : List Output) : Type 0 where
   pub more : List Output
   pub appended : all ≡ before ++ more
@@ -36,7 +36,7 @@ module _ {W R F : Type 0} (answer : PolledRequest F R → ℕ → Answer) (answe
   StepGoes old new s sent = (settings : Settings) (q : List Step) → ServesSteps settings q old
       → (sent ≡ step_gained answers settings q s) × ServesSteps settings (q ++ s ∷ []) new
 
-  -- whatever the settings and the steps before, what is appended is what is sent for s behind them. So a server that is stepped
+  -- whatever the settings and the steps before, what is appended is what is sent for s after them. So a server that is stepped
   -- through a list has appended what is sent for that list
   abbrev pub AddsStep : Server W R F → Server W R F → Step → List Output → List Output → Type 0
   AddsStep old new s before all = (settings : Settings) (q : List Step) → ServesSteps settings q old

@@ -40,7 +40,7 @@ pub record Trail : Type 0 where
 abbrev pub no_trail : Trail
 no_trail = record { went = []; waiting = []; dropped = [] }
 
--- those that went, and then those that wait
+-- the replies of a trail: those that went, and then those that wait
 abbrev pub in_order : Trail → List (Option Origin)
 in_order t = t.went ++ t.waiting
 
@@ -48,7 +48,7 @@ in_order t = t.went ++ t.waiting
 abbrev pub poll_of : ℕ → SlateRequest → ℕ → Origin
 poll_of k r n = record { request = k; asked = r.request; poll = n }
 
--- the poll whose reply a turn is to queue: the next one, or the last one where its reply is held
+-- the poll whose reply a turn is to queue: the next one, or the last one if its reply is held
 abbrev pub origin : ℕ → SlateRequest → Origin
 origin k r = poll_of k r (if is_some r.held then r.polls - 1 else r.polls)
 
@@ -76,14 +76,14 @@ is_open Open = true
 is_open _ = false
 
 -- a message refuses a response: it is FORMERR (RFC 1035, section 4.1.1) to octets with QR set, cut to a limit in a datagram, and
--- behind its length in a frame
+-- after its length in a frame
 abbrev pub Refuses : Output → Type 0
 Refuses (Datagram client o) = (response : List ℕ) × (hint : Option ℕ) × ((header_of response).qr ≡ true)
     × (o ≡ wire (cut (limit hint) (error_reply response 1)))
 Refuses (Frame client o) = (response : List ℕ) × ((header_of response).qr ≡ true) × (o ≡ framed (wire (error_reply response 1)))
 Refuses _ = ⊥
 
--- a message as it is sent: on a connection behind its length
+-- a message as it is sent: on a connection after its length
 abbrev pub on_wire : TransportSpecificContext → Msg → List ℕ
 on_wire (Udp hint) m = wire m
 on_wire (NonUdp timeout) m = framed (wire m)
@@ -109,7 +109,7 @@ AreAnswers (m ∷ ms) [] = ⊥
 AreAnswers (m ∷ ms) (out ∷ outs) = IsAnswer m out × AreAnswers ms outs
 
 -- where the frames of a queue come from, after an event: its first frames waited before it, and come from where they did; those
--- behind them joined with the event
+-- after them joined with the event
 abbrev pub queue_origins : List (List ℕ) → List (Option Origin) → Option Origin → List (Option Origin)
 queue_origins [] waited new = []
 queue_origins (frame ∷ queue) [] new = new ∷ queue_origins queue [] new

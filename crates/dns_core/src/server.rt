@@ -37,7 +37,7 @@ pub struct Server<W: SharedService> {
     pub(crate) book: BookState,
 }
 
-/// A slot is given back to the book, where a client freed it.
+/// A slot is given back to the book, if a client freed it.
 pub(crate) fn give_back(book: &mut BookState, freed: bool)
     ensures { book.new ≡ (if freed then state_after book.old Release else book.old) }
 {
@@ -181,7 +181,7 @@ impl<W: SharedService> Server<W> {
         )
     }
 
-    /// A connection begins, where a slot is free, and else is turned away. Nothing happens where its number is used or the
+    /// A connection begins, if a slot is free, and else is turned away. Nothing happens if its number is used or the
     /// server shut down.
     pub(crate) fn offer(
         &mut self,

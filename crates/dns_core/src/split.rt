@@ -154,7 +154,7 @@ pub fn serve_each_step<W: SharedService>(
     Ok(outs)
 }
 
-/// What all clients are sent, where each hears of the server's changes only when it looks. The wrapped service is that of
+/// What all clients are sent, if each hears of the server's changes only when it looks. The wrapped service is that of
 /// `serve_events`.
 pub fn serve_steps<S: Service<()>, N: Notifiable>(
     alloc: Global,

@@ -1,4 +1,4 @@
-//! Laws of what is sent where clients look for themselves.
+//! Laws of what is sent if clients look for themselves.
 
 ghost use Rattle.dns_session.specs.Serving.{Serving};
 ghost use Rattle.std.specs.Prelude.{◌≡◌, ◌≢◌, ◌<◌, ◌≤◌, ℕ, List, length, [], ◌∷◌, ◌++◌, true, false, Some, None, slice_get, nat_eq, filter, not, All};
@@ -103,7 +103,7 @@ pub fn replies_of_steps_answer_what_was_asked()
     dns_service::cut_fits();
 }
 
-/// A client is sent its replies in order, as where it hears of all at once: each message that it is sent is the reply to one poll
+/// A client is sent its replies in order, as if it heard of all at once: each message that it is sent is the reply to one poll
 /// of one of its requests, or refuses a response with FORMERR. So is each frame of its queue. Those of one request stand in the
 /// order of its polls, each at most once. Take a reply that one of its requests was polled for. It was sent, or waits in the queue,
 /// or is the one that its request holds, or was dropped outside of a transaction. It is dropped if the queue stood full or the

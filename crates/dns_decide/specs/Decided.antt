@@ -42,7 +42,7 @@ abbrev pub AnswersUnrefused : {V Meta : Type 0} → (V → ℕ → PolledVerdict
 AnswersUnrefused {V} {Meta} verdict s tgt r d = (svc : Req Meta → ℕ → Answer) (k : ℕ)
     → decided verdict (svc (passed s r)) d k ≡ replies_unrefused s svc tgt r k
 
--- and of one that the cookie layer doesn't answer, by what the target is asked
+-- of a request that the cookie layer doesn't answer, a decision answers by what the target is asked
 abbrev pub AnswersNotice : {V Meta : Type 0} → (V → ℕ → PolledVerdict) → PassPlan → (Notice → ℕ → PolledVerdict) → Req Meta
     → Option Notice → Decision V → Type 0
 AnswersNotice {V} {Meta} verdict p tgt r notice d = (svc : Req Meta → ℕ → Answer) (k : ℕ)

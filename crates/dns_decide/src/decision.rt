@@ -101,7 +101,7 @@ fn decide_unrefused<N: Notifiable, Meta>(
     }
 }
 
-/// The target is asked where there is a notice, and else the request is passed on.
+/// The target is asked if there is a notice, and else the request is passed on.
 #[tactic(auto, using(dns_layers::proofs::EdnsLaws::passed_hinted, dns_layers::proofs::EdnsLaws::kept_hint))]
 fn ask_or_pass<N: Notifiable, Meta>(
     alloc: Global,

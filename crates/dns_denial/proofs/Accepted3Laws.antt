@@ -218,7 +218,7 @@ module _ (z : ZoneState) (h : Hashing) (ns chosen : List Nsec3State) (t : ℕ) (
             let l = v.closest e g in
             let s : wildcard z name ≡ star ∷ provable h ns name = ap (λ (x : List (List ℕ)). star ∷ x) (sym l.0) in
             let n : HasNone z (star ∷ provable h ns name) t = subst (λ (x : List (List ℕ)). HasNone z x t) s (none_of z t name false e f) in
-            let p : CanBeDenied z (star ∷ provable h ns name) t = subst (λ (x : List (List ℕ)). CanBeDenied z x t) s (record { told = d.told; parent = never (nat_eq t 43) (same_name (wildcard z name) z.apex) (not_apex z start name within) }) in
+            let p : CanBeDenied z (star ∷ provable h ns name) t = subst (λ (x : List (List ℕ)). CanBeDenied z x t) s (record { deniable = d.deniable; parent = never (nat_eq t 43) (same_name (wildcard z name) z.apex) (not_apex z start name within) }) in
             let x : exists z (star ∷ provable h ns name) ≡ true = subst (λ (y : List (List ℕ)). exists z y ≡ true) s g in
             let m : is_matched h ns (star ∷ provable h ns name) ≡ true = subst (λ (y : List (List ℕ)). is_matched h ns y ≡ true) s l.1 in
             let u : is_cut_off z (star ∷ provable h ns name) ≡ false = wild_uncut z start (provable h ns name) (answered_above z name (provable h ns name) k (provable_above h ns name)) in

@@ -151,7 +151,7 @@ module _ (z : ZoneState) (ns chosen : List NsecState) (t : ℕ) (name : List (Li
 
       no_type : exists z (wildcard z name) ≡ true → HasNone z (wildcard z name) t → proves_wildcard_no_data z.apex chosen name t ≡ true
       no_type g o =
-          let c : CanBeDenied z (wildcard z name) t = record { told = d.told; parent = never (nat_eq t 43) (same_name (wildcard z name) z.apex) (not_apex z start name inside) } in
+          let c : CanBeDenied z (wildcard z name) t = record { deniable = d.deniable; parent = never (nat_eq t 43) (same_name (wildcard z name) z.apex) (not_apex z start name inside) } in
           let b : denies_type z.apex (shown_wildcard n name) t m ≡ true = ap (λ (v : List (List ℕ)). denies_type z.apex v t m) (wildcard_shown z ns w name n l h e) ∙ denied_type z ns w (wildcard z name) t m last wild_answered g o c in
           present (λ (q : NsecState). denies_name z.apex name q && list_any (denies_type z.apex (shown_wildcard q name) t) chosen) chosen n x
           (and_from (denies_name z.apex name n) (list_any (denies_type z.apex (shown_wildcard n name) t) chosen) (denied z ns w name n l answered e) (present (denies_type z.apex (shown_wildcard n name) t) chosen m y b))

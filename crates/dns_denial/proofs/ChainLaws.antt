@@ -22,7 +22,7 @@ use Rattle.dns_denial.proofs.OrderLaws.{before_apart, before_right, before_upto,
 -- ---- tests of records
 
 module _ (z : ZoneState) where
-  -- a name exists where one that owns a record ends with it
+  -- a name exists if one that owns a record ends with it
   pub owner_exists : (c s : List (List ℕ)) → list_any (is_owned c) z.records ≡ true → ends_name c s ≡ true → exists z s ≡ true
   owner_exists c s h e =
       let f = found (is_owned c) z.records h in
@@ -102,7 +102,7 @@ module _ (z : ZoneState) (ns : List NsecState) (w : IsChained z ns) where
   owned_next : (n : NsecState) → Contains ns n → list_any (is_owned n.next) z.records ≡ true
   owned_next n c = (and_parts (list_any (is_owned n.next) z.records) (not (is_below_cut z n.next)) (w.next n c)).0
 
-  -- the last NSEC that is not behind a name covers it, or is its own
+  -- the last NSEC that is not after a name covers it, or is its own
   pub last_covers : (name : List (List ℕ)) (n : NsecState) → IsLast ns name n → same_name n.owner name ≡ false → covers z.apex name n ≡ true
   last_covers name n l other =
       let f = found (matches n.next) ns (w.held n.next (w.next n l.one)) in

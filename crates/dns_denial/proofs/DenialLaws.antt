@@ -106,7 +106,7 @@ module _ (z : ZoneState) (ns : List NsecState) (w : IsWhole z ns) where
       let k : nat_eq t 255 ≡ false = not_any z name t own h.none in
       and_from (not (nat_eq t 255 || (lists n t || lists n 5))) (if nat_eq t 43 then not (lists n 6) else not (is_delegation n))
       (not_from_false (nat_eq t 255 || (lists n t || lists n 5)) (or_from (nat_eq t 255) (lists n t || lists n 5) k
-      (or_from (lists n t) (lists n 5) (unlisted n t c d.told (none_as n.owner name t e (not_at z name t h.none))) (unlisted n 5 c (refl, refl) (none_as n.owner name 5 e (no_alias z name t h k))))))
+      (or_from (lists n t) (lists n 5) (unlisted n t c d.deniable (none_as n.owner name t e (not_at z name t h.none))) (unlisted n 5 c (refl, refl) (none_as n.owner name 5 e (no_alias z name t h k))))))
       (by_ds (nat_eq t 43) refl)
     where
       second_false : (a b : Bool) → a ≡ true → (a && b) ≡ false → b ≡ false
@@ -172,7 +172,7 @@ module _ (z : ZoneState) (ns : List NsecState) (w : IsWhole z ns) where
   pub last_wildcard : (name : List (List ℕ)) (n m : NsecState) → IsLast ns name n → is_cut_off z name ≡ false → exists z name ≡ false → IsLast ns (shown_wildcard n name) m → IsLast ns (wildcard z name) m
   last_wildcard name n m l a e k = subst (λ (v : List (List ℕ)). IsLast ns v m) (wildcard_shown name n l a e) k
 
--- ---- where there is no NSEC, or no room for the wildcard
+-- ---- if there is no NSEC, or no room for the wildcard
 
 short_encloser : (z : ZoneState) (ls : List (List ℕ)) → length (spell (encloser z ls)) ≤ length (spell ls)
 short_encloser z [] = omega arith
@@ -199,7 +199,7 @@ no_room z ns name n w l a e i h =
     let s : shown_encloser n name ≡ encloser z name = ap (drop 1) (wildcard_shown z ns w name n l a e) in
     absurd (omega (arith, h, ap (λ (x : List (List ℕ)). length (spell x)) s, shorter_encloser z name (root_exists z ns w name e) i e))
 
--- the first NSEC is not behind a name in the zone
+-- the first NSEC is not after a name in the zone
 pub some_last : (z : ZoneState) (ns : List NsecState) (name : List (List ℕ)) → IsWhole z ns → ends_name name z.apex ≡ true → AllBehind ns name → ⊥
 some_last z ns name w e h =
     let f = found (matches z.apex) ns (w.chain.held z.apex (must_apex z (starts z w.zone))) in
@@ -240,7 +240,7 @@ wildcard_no_data ns name n m l k z t w i a e f h o =
     let s = wildcard_shown z ns w name n l a.cut e in
     let j = last_wildcard z ns w name n m l a.cut e k in
     let b : IsAnswered z (wildcard z name) = record { cut = wildcard_cut z (starts z w.zone) name a.cut; dname = wildcard_dname z (starts z w.zone) name a.dname e } in
-    let g : CanBeDenied z (wildcard z name) t = record { told = o; parent = and_right (nat_eq t 43) (same_name (wildcard z name) z.apex) (not_apex z (starts z w.zone) name i) } in
+    let g : CanBeDenied z (wildcard z name) t = record { deniable = o; parent = and_right (nat_eq t 43) (same_name (wildcard z name) z.apex) (not_apex z (starts z w.zone) name i) } in
     let d : denies_type z.apex (shown_wildcard n name) t m ≡ true = ap (λ (v : List (List ℕ)). denies_type z.apex v t m) s ∙ denied_type z ns w (wildcard z name) t m j b f h g in
     two (denies_name z.apex name n) (denies_type z.apex (shown_wildcard n name) t n) (denies_type z.apex (shown_wildcard n name) t m) (denies_name z.apex name m) (list_any (denies_type z.apex (shown_wildcard m name) t) (n ∷ m ∷ [])) (denied z ns w name n l a e) d
 

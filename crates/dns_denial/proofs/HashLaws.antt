@@ -157,7 +157,7 @@ module _ (z : ZoneState) (h : Hashing) (ns : List Nsec3State) (w : IsWhole3 z h 
       (and_from (not ((nat_eq t 255 && list_any is_deniable a.types) || (has a t || has a 5))) (if nat_eq t 43 then not (has a 6) else not (is_delegation3 a))
       (not_from_false ((nat_eq t 255 && list_any is_deniable a.types) || (has a t || has a 5))
       (or_from (nat_eq t 255 && list_any is_deniable a.types) (has a t || has a 5) (any (cases_Bool (nat_eq t 255)))
-      (or_from (has a t) (has a 5) (at t o.told ∙ not_at z name t d.none) (at 5 (refl, refl) ∙ alias (cases_Bool (nat_eq t 255))))))
+      (or_from (has a t) (has a 5) (at t o.deniable ∙ not_at z name t d.none) (at 5 (refl, refl) ∙ alias (cases_Bool (nat_eq t 255))))))
       (by_ds (nat_eq t 43) refl))
     where
       m : matches3 h name a ≡ true

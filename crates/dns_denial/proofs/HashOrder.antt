@@ -38,7 +38,7 @@ bytes_back : (a b : List ℕ) → bytes_eq a b ≡ false → bytes_eq b a ≡ fa
 bytes_back a b h = false_from_ne_true (bytes_eq b a) (λ t. true≢false (sym ((bytes_decides a b).1 (sym (same_hash b a t))) ∙ h))
 
 module _ (ns : List Nsec3State) (o : List ℕ) (n : Nsec3State) (l : IsNearest ns o n) where
-  -- it matches the hash, where one does
+  -- it matches the hash, if one does
   pub nearest_matches : list_any (λ (m : Nsec3State). bytes_eq m.hash o) ns ≡ true → bytes_eq n.hash o ≡ true
   nearest_matches h = by_near l.near
     where
@@ -54,7 +54,7 @@ module _ (ns : List Nsec3State) (o : List ℕ) (n : Nsec3State) (l : IsNearest n
           let e : f.one.hash ≡ o = same_hash f.one.hash o f.passes in
           absurd (true≢false (sym (k.0 f.one f.there) ∙ (ap (is_lower o) e ∙ not_itself o)))
 
-  -- and spans it, where it doesn't match
+  -- and spans it, if it doesn't match
   pub nearest_spans : bytes_eq n.hash o ≡ false → list_any (λ (m : Nsec3State). bytes_eq m.hash n.next) ns ≡ true → spans o n ≡ true
   nearest_spans other h = by_near l.near (is_lower n.hash n.next) refl
     where

@@ -68,7 +68,7 @@ module _ (h : Hashing) (ns : List Nsec3State) where
   none_any [] l e = e
   none_any (x ∷ xs) l e = absurd (omega (arith, l))
 
-  -- where none of them has one, no zone has the name
+  -- if none of them has one, no zone has the name
   pub no_zone : (name left : List (List ℕ)) (n : Nsec3State) → length left ≤ 0 → GoesUp name left n → HasNoZone3 h ns name
   no_zone name left n l g z w e = true≢false (sym (inside z h ns w name e) ∙ (sym g.any ∙ none_any left l g.missing))
 

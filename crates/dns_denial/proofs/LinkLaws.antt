@@ -1,4 +1,4 @@
--- Each NSEC of a sorted chain points to the one behind it exactly where no name that must have one is between.
+-- Each NSEC of a sorted chain points to the one after it exactly if no name that must have one is between.
 use Rattle.std.proofs.Common.{◌≡◌, ℕ, zero, suc, ◌+◌, ◌≤◌, ◌<◌, Bool, true, false, List, [], ◌∷◌, length, nat_eq, refl, ap, sym, subst, ◌∙◌, arith, inl, inr}
 use Rattle.std.specs.Prelude.{◌&&◌, ◌||◌, ◌⊎◌, not, slice_index_or, if◌then◌else◌}
 use Rattle.std.specs.Cmp.{both_ways}
@@ -60,7 +60,7 @@ module _ (ns : List NsecState) (sorted : AreSorted ns) where
       by_order (inr (inl l)) = absurd (true≢false (sym (in_order n m c d l) ∙ same_upto n.owner m.owner e))
       by_order (inr (inr l)) = absurd (true≢false (sym (in_order m n d c l) ∙ same_upto m.owner n.owner (same_back n.owner m.owner e)))
 
--- ---- an NSEC and the one behind it
+-- ---- an NSEC and the one after it
 
 module _ (z : ZoneState) (ns : List NsecState) (start : HasStart z) (sorted : AreSorted ns) where
   record More (n : NsecState) (c : Contains ns n) : Type 0 where

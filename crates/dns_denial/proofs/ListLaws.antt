@@ -52,7 +52,7 @@ some_step : (b c : Bool) (r : Record) (ks : List Record) → are_some ks ≡ c �
 some_step true c r ks h = refl
 some_step false c r ks h = h
 
--- it keeps some where a test passes
+-- it keeps some if a test passes
 pub some_any : (p : Record → Bool) (rs : List Record) → are_some (filter p rs) ≡ list_any p rs
 some_any p [] = refl
 some_any p (r ∷ rs) = some_step (p r) (list_any p rs) r (filter p rs) (some_any p rs)
@@ -90,7 +90,7 @@ module _ {X : Type 0} (p : X → Bool) where
   none_from i [] h = refl
   none_from i (x ∷ xs) h = none_step (p x) (list_any p xs) i (position_from p (i + 1) xs) (none_from (i + 1) xs) h
 
-  -- none passes where there is no place
+  -- none passes if there is no place
   pub no_place : (xs : List X) → position p xs ≡ None → list_any p xs ≡ false
   no_place xs h = none_from 0 xs (sym (position_from-zero p xs) ∙ h)
 
@@ -102,7 +102,7 @@ module _ {X : Type 0} (p : X → Bool) where
   some_from i j [] h = absurd (cc)
   some_from i j (x ∷ xs) h = some_place_step (p x) (list_any p xs) i j (position_from p (i + 1) xs) (some_from (i + 1) j xs) h
 
-  -- and one does where there is one
+  -- and one does if there is one
   pub some_place : (j : ℕ) (xs : List X) → position p xs ≡ Some j → list_any p xs ≡ true
   some_place j xs h = some_from 0 j xs (sym (position_from-zero p xs) ∙ h)
 

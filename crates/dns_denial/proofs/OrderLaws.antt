@@ -66,7 +66,7 @@ tied Greater h = absurd (true≢false (sym h))
 turned : (a b : List (List ℕ)) → is_gt (name_cmp a b) ≡ is_before b a
 turned a b = ap is_gt (name_cmp_total.antisymm a b) ∙ flipped (name_cmp b a)
 
--- a is not behind b, nor b behind c
+-- a is not after b, nor b after c
 pub upto_trans : (a b c : List (List ℕ)) → is_before b a ≡ false → is_before c b ≡ false → is_before c a ≡ false
 upto_trans a b c h k = sym (turned a c) ∙ upto name_cmp_total a b c (turned a b ∙ h) (turned b c ∙ k)
 
@@ -99,7 +99,7 @@ same_upto a b h = ap is_lt (same_equal a b h)
 
 -- ---- names below a name
 
--- a name is not behind those that end with it
+-- a name is not after those that end with it
 pub ends_upto : (a s : List (List ℕ)) → ends_name a s ≡ true → is_before a s ≡ false
 ends_upto a s h =
     let p = ends_key a s h in

@@ -99,7 +99,7 @@ module _ (z : ZoneState) (start : HasStart z) where
       true≢false (sym (same_back [] d.one.owner e) ∙ not-true (same_name d.one.owner []) q.1))
   undname (l ∷ ls) h = let o = opened true (l ∷ ls) ls (region z ls) refl h in dname_cons l ls (undname ls o.above) o.dname
 
-  -- a name that is reached is below no DNAME record and below no cut; it is one at most where DS is asked for
+  -- a name that is reached is below no DNAME record and below no cut; it is one at most if DS is asked for
   pub record Reached (t : ℕ) (name : List (List ℕ)) : Type 0 where
     pub dname : is_under_dname z name ≡ false
     pub first : is_below_cut z name ≡ false
@@ -175,7 +175,7 @@ module _ (z : ZoneState) (start : HasStart z) where
   asked_cut t [] rs h = absurd (cc)
   asked_cut t (l ∷ ls) rs h = cut_down (not (nat_eq t 43)) l ls rs (region z ls) refl h (cut_region ls rs)
 
-  -- where DS is asked for, a name at a cut is below one
+  -- if DS is asked for, a name at a cut is below one
   pub asked_below : (name : List (List ℕ)) (rs : List Record) → asked_region z 43 name ≡ BelowCut rs → is_below_cut z name ≡ true
   asked_below [] rs h = absurd (cc)
   asked_below (l ∷ ls) rs h = by_region (region z ls) refl h

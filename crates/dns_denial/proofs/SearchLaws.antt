@@ -1,4 +1,4 @@
--- The last NSEC that is not behind a name, by its place.
+-- The last NSEC that is not after a name, by its place.
 use Rattle.std.proofs.Common.{◌≡◌, ℕ, ◌+◌, ◌-◌, ◌≤◌, ◌<◌, true, false, List, length, ap, sym, ◌∙◌, arith, inl, inr}
 use Rattle.std.specs.Prelude.{◌⊎◌, slice_index_or}
 use Rattle.std.specs.List.{Contains}
@@ -10,7 +10,7 @@ use Rattle.dns_denial.proofs.OrderLaws.{before_before, before_upto, upto_trans}
 use Rattle.dns_denial.proofs.PlaceLaws.{same_default}
 
 module _ (ns : List NsecState) (name : List (List ℕ)) where
-  -- those that are not behind a name come first
+  -- those that are not after a name come first
   pub partitioned : AreSorted ns → IsPartitionedBy (is_up_to name) ns
   partitioned sorted i j d l k h = by_place (cases_lt i j)
     where

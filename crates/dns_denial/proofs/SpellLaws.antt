@@ -32,7 +32,7 @@ read_all o ls e h =
 
 -- ---- the encloser
 
--- it is the name itself, where an NSEC's owner or next name ends with it
+-- it is the name itself, if an NSEC's owner or next name ends with it
 pub stops : (n : NsecState) (ls : List (List ℕ)) → (ends_name n.owner ls || ends_name n.next ls) ≡ true → shown_encloser n ls ≡ ls
 stops n [] h = refl
 stops n (l ∷ ls) h = ap (λ (b : Bool). if b then l ∷ ls else shown_encloser n ls) h

@@ -57,7 +57,7 @@ some_by (j ∷ js) false h = absurd (cc)
 pub placed_by : (t : ℕ) (m : Kinds) (b : Bool) → MatchBool b (0 < length (kind_places t m)) (kind_places t m ≡ []) → b ≡ is_placed t m
 placed_by t m b h = some_by (kind_places t m) b h
 
--- there is a place where a record passes
+-- there is a place if a record passes
 some_places : (p : Record → Bool) (i : ℕ) (rs : List Record) → not (length (places_from p i rs) == 0) ≡ list_any p rs
 some_places p i [] = none_left
 some_places p i (r ∷ rs) = place_step (p r) (list_any p rs) i (places_from p (suc i) rs) (some_places p (suc i) rs)
@@ -86,7 +86,7 @@ module _ (z : ZoneState) (name : List (List ℕ)) (m : Kinds) (h : IsHeld z name
   held_type : (t : ℕ) → t ≢ 255 → is_placed t m ≡ list_any (is_record_at name t) z.records
   held_type t n = held_some t ∙ any_agree (is_asked name t) (is_record_at name t) (λ r. ap (λ (b : Bool). is_owned name r && (b || is_of t r)) (exact t n)) z.records
 
-  -- such a name is cut off where it is a delegation point
+  -- such a name is cut off if it is a delegation point
   held_cut : is_cut_off z name ≡ (list_any (is_record_at name 2) z.records && not (same_name name z.apex))
   held_cut = both_ways (is_cut_off z name) (list_any (is_record_at name 2) z.records && not (same_name name z.apex)) there back
     where

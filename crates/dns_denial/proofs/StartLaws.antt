@@ -127,7 +127,7 @@ wild_owner e (l ∷ ls) h =
     let g : map to_ascii_lowercase l ≡ 42 ∷ [] = cc in
     star_label l g
 
--- no wildcard is at or below a cut, where the name that it is below isn't: NS records at a wildcard aren't served
+-- no wildcard is at or below a cut, if the name that it is below isn't: NS records at a wildcard aren't served
 pub wild_uncut : (z : ZoneState) → HasStart z → (e : List (List ℕ)) → is_cut_off z e ≡ false → is_cut_off z (star ∷ e) ≡ false
 wild_uncut z start e a = false_from_ne_true (is_cut_off z (star ∷ e)) (λ h.
     let f = found (delegates z (star ∷ e)) z.records h in

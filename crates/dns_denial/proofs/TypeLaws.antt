@@ -28,7 +28,7 @@ module _ (z : ZoneState) where
       let f = found (is_owned name) z.records o in
       true≢false (sym (present (is_asked name t) z.records f.one f.there (and_from (is_owned name f.one) (nat_eq t 255 || is_of t f.one) f.passes (or_left (nat_eq t 255) (is_of t f.one) k))) ∙ h))
 
-  -- and no CNAME, where one would be followed
+  -- and no CNAME, if one would be followed
   pub no_alias : (name : List (List ℕ)) (t : ℕ) → HasNone z name t → nat_eq t 255 ≡ false → list_any (is_record_at name 5) z.records ≡ false
   no_alias name t h k = by_type (cases_Bool (nat_eq t 5))
     where

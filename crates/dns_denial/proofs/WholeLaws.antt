@@ -44,7 +44,7 @@ or_of false b h = refl
 -- ---- a record and the NSEC of its owner
 
 module _ (z : ZoneState) (ns : List NsecState) (sorted : AreSorted ns) (r : Record) where
-  -- one NSEC of the chain alone can list it: the last that isn't behind its owner
+  -- one NSEC of the chain alone can list it: the last that isn't after its owner
   pub listed_by : (n : NsecState) → IsLast ns r.owner n → list_any (lists_record z r) ns ≡ lists_record z r n
   listed_by n l = both_ways (list_any (lists_record z r) ns) (lists_record z r n) there (present (lists_record z r) ns n l.one)
     where

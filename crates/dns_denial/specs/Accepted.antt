@@ -49,7 +49,7 @@ sought_by name (BelowDname ds) = name
 abbrev pub sought : ZoneState → ℕ → List (List ℕ) → List (List ℕ)
 sought z t name = sought_by name (asked_region z t name)
 
--- an NSEC that is chosen: the last that is not behind the wildcard which another shows of a name
+-- an NSEC that is chosen: the last that is not after the wildcard which another shows of a name
 abbrev pub HasWildcards : List NsecState → List NsecState → NsecState → List (List ℕ) → Type 0
 HasWildcards ns chosen n name = (m : NsecState) × IsLast ns (shown_wildcard n name) m × Contains chosen m
 

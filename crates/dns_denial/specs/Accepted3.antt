@@ -90,7 +90,7 @@ IsClosest h ns name c = AreClosest h ns name c.encloser.now c.next.now c.above
 abbrev pub Denies : Hashing → List Nsec3State → List (List ℕ) → HashedDenial → Type 0
 Denies h ns name d = AreChosen h ns (denied_by d) name
 
--- which NSEC3 of a denial is which: the name's own; or, where it has none, those of the closest provable encloser, of the next closer name
+-- which NSEC3 of a denial is which: the name's own; or, if it has none, those of the closest provable encloser, of the next closer name
 -- and of the wildcard (RFC 5155, sections 7.2.1 to 7.2.7)
 abbrev pub IsDenialOf : Hashing → List Nsec3State → List (List ℕ) → HashedDenial → Type 0
 IsDenialOf h ns name (Own n) = (is_matched h ns name ≡ true) × IsNear h ns name n.now

@@ -42,7 +42,7 @@ StandsAt z name Unknown = Unit {0}
 abbrev pub is_to_list : ZoneState → Record → Bool
 is_to_list z r = is_deniable (data_type r.rdata) && has_type z r.owner (data_type r.rdata)
 
--- whether an NSEC is that of a record's owner, and lists the record's type where it is to be listed
+-- whether an NSEC is that of a record's owner, and lists the record's type if it is to be listed
 abbrev pub lists_record : ZoneState → Record → NsecState → Bool
 lists_record z r n = matches r.owner n && (not (is_to_list z r) || lists n (data_type r.rdata))
 
@@ -62,7 +62,7 @@ is_unfounded z n = not (must_have z n.owner && list_all (is_there z n) n.types)
 
 -- ---- the order
 
--- the owner behind a place; behind the last one the apex
+-- the owner after a place; after the last one the apex
 abbrev pub owner_behind : List (List ℕ) → List NsecState → ℕ → NsecState → List (List ℕ)
 owner_behind apex ns k d = if nat_lt (k + 1) (length ns) then (slice_index_or ns (k + 1) d).owner else apex
 
@@ -71,7 +71,7 @@ abbrev pub AreLinked : List (List ℕ) → List NsecState → ℕ → Type 0
 AreLinked apex ns high = (k : ℕ) (d : NsecState) → k < high → k < length ns
     → same_name (slice_index_or ns k d).next (owner_behind apex ns k d) ≡ true
 
--- the first that doesn't
+-- NSEC k is the first that doesn't point to the next name
 pub record IsUnlinked (apex : List (List ℕ)) (ns : List NsecState) (k : ℕ) : Type 0 where
   pub within : k < length ns
   pub first : AreLinked apex ns k

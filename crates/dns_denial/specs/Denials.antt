@@ -14,7 +14,7 @@ use Rattle.dns_denial.specs.Nsecs.{NsecState, is_before}
 use Rattle.dns_denial.specs.Validation.{proves_expansion, proves_insecure, proves_name_error, proves_no_data, proves_wildcard_no_data, shown_encloser, shown_wildcard}
 use Rattle.dns_denial.specs.Chains.{IsDeniable, IsWhole, is_below_cut, is_record_at}
 
--- the last NSEC whose owner is not behind a name
+-- the last NSEC whose owner is not after a name
 pub record IsLast (ns : List NsecState) (name : List (List ℕ)) (n : NsecState) : Type 0 where
   pub one : Contains ns n
   pub upto : is_before name n.owner ≡ false
@@ -36,7 +36,7 @@ pub record HasNone (z : ZoneState) (name : List (List ℕ)) (t : ℕ) : Type 0 w
 
 -- a question that can be denied: RRSIG and NSEC are there wherever a name is, and DS at the apex is the parent's to deny
 pub record CanBeDenied (z : ZoneState) (name : List (List ℕ)) (t : ℕ) : Type 0 where
-  pub told : IsDeniable t
+  pub deniable : IsDeniable t
   pub parent : (nat_eq t 43 && same_name name z.apex) ≡ false
 
 -- ---- what chosen NSECs prove of each zone whose chain they are from
@@ -51,14 +51,14 @@ abbrev pub ProvesNoData : List NsecState → List (List ℕ) → NsecState → T
 ProvesNoData ns name n = (z : ZoneState) (t : ℕ) → IsWhole z ns → IsAnswered z name → exists z name ≡ true → HasNone z name t
     → CanBeDenied z name t → proves_no_data z.apex (n ∷ []) name t ≡ true
 
--- of a name that doesn't exist, where a wildcard stands for it that has no records of a type (section 3.1.3.4)
+-- of a name that doesn't exist, if a wildcard stands for it that has no records of a type (section 3.1.3.4)
 abbrev pub ProvesWildcardNoData : List NsecState → List (List ℕ) → NsecState → NsecState → Type 0
 ProvesWildcardNoData ns name n m = (z : ZoneState) (t : ℕ) → IsWhole z ns → ends_name name z.apex ≡ true → IsAnswered z name
     → exists z name ≡ false
     → exists z (wildcard z name) ≡ true → HasNone z (wildcard z name) t → IsDeniable t
     → proves_wildcard_no_data z.apex (n ∷ m ∷ []) name t ≡ true
 
--- of a name that doesn't exist, where a wildcard's records are given for it (section 3.1.3.3)
+-- of a name that doesn't exist, if a wildcard's records are given for it (section 3.1.3.3)
 abbrev pub ProvesExpansion : List NsecState → List (List ℕ) → NsecState → Type 0
 ProvesExpansion ns name n = (z : ZoneState) → IsWhole z ns → IsAnswered z name → exists z name ≡ false
     → proves_expansion z.apex (n ∷ []) name (wildcard z name) ≡ true
@@ -70,11 +70,11 @@ pub record IsUnsigned (z : ZoneState) (cut : List (List ℕ)) : Type 0 where
   pub first : is_below_cut z cut ≡ false
   pub unsigned : list_any (is_record_at cut 43) z.records ≡ false
 
--- where it is referred to (section 3.1.4)
+-- if it is referred to (section 3.1.4)
 abbrev pub ProvesInsecure : List NsecState → List (List ℕ) → NsecState → Type 0
 ProvesInsecure ns cut n = (z : ZoneState) → IsWhole z ns → IsUnsigned z cut → proves_insecure (n ∷ []) cut ≡ true
 
--- where its DS is asked for (section 3.1.4.1)
+-- if its DS is asked for (section 3.1.4.1)
 abbrev pub ProvesNoDs : List NsecState → List (List ℕ) → NsecState → Type 0
 ProvesNoDs ns cut n = (z : ZoneState) → IsWhole z ns → IsUnsigned z cut → list_any (is_record_at cut 5) z.records ≡ false
     → proves_no_data z.apex (n ∷ []) cut 43 ≡ true
@@ -103,13 +103,13 @@ InsecureDelegationsAreProved = (ns : List NsecState) (cut : List (List ℕ)) (n 
 abbrev pub DsIsProvedAbsent : Type 0
 DsIsProvedAbsent = (ns : List NsecState) (cut : List (List ℕ)) (n : NsecState) → IsLast ns cut n → ProvesNoDs ns cut n
 
--- ---- where no NSEC is chosen
+-- ---- if no NSEC is chosen
 
 -- no NSEC is before a name, nor at it
 abbrev pub AllBehind : List NsecState → List (List ℕ) → Type 0
 AllBehind ns name = (m : NsecState) → Contains ns m → is_before name m.owner ≡ true
 
--- the last that is not behind a name, where there is one
+-- the last that is not after a name, if there is one
 abbrev pub IsLastOf : List NsecState → List (List ℕ) → Option (Bor NsecState) → Type 0
 IsLastOf ns name o = MatchOption o (AllBehind ns name) (λ n. IsLast ns name n.now)
 
@@ -121,11 +121,11 @@ IsTooLong n name = IsName name × (253 < length (spell (shown_encloser n name)))
 abbrev pub NoneBelow : List NsecState → NsecState → List (List ℕ) → Type 0
 NoneBelow ns n name = IsTooLong n name ⊎ AllBehind ns (shown_wildcard n name)
 
--- the last that is not behind that wildcard, where there is one
+-- the last that is not after that wildcard, if there is one
 abbrev pub IsLastBelow : List NsecState → NsecState → List (List ℕ) → Option (Bor NsecState) → Type 0
 IsLastBelow ns n name o = MatchOption o (NoneBelow ns n name) (λ m. IsLast ns (shown_wildcard n name) m.now)
 
--- the last that is not behind a name, and the last that is not behind the wildcard which that one shows
+-- the last that is not after a name, and the last that is not after the wildcard which that one shows
 abbrev pub AreLast : List NsecState → List (List ℕ) → NsecState → NsecState → Type 0
 AreLast ns name n m = IsLast ns name n × IsLast ns (shown_wildcard n name) m
 

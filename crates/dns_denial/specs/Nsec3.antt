@@ -50,7 +50,7 @@ has n t = list_any (nat_eq t) n.types
 abbrev pub matches3 : Hashing → List (List ℕ) → Nsec3State → Bool
 matches3 h name n = bytes_eq n.hash (hash_of h name)
 
--- a hash is between the owner's and the next one, which is the lowest where the owner's is the highest (section 3.1.7)
+-- a hash is between the owner's and the next one, which is the lowest if the owner's is the highest (section 3.1.7)
 abbrev pub spans : List ℕ → Nsec3State → Bool
 spans o n = if is_lower n.hash n.next then is_lower n.hash o && is_lower o n.next else (is_lower n.hash o || is_lower o n.next)
 
@@ -69,7 +69,7 @@ lacks3 t n = not ((nat_eq t 255 && list_any is_deniable n.types) || (has n t || 
 -- ---- all NSEC3s of a reply
 
 -- of a name that doesn't exist the next closer name, one label longer than the closest encloser (section 8.3): the first name up
--- from it whose parent an NSEC3 matches, where one covers it
+-- from it whose parent an NSEC3 matches, if one covers it
 abbrev pub next_closer : Hashing → List Nsec3State → List (List ℕ) → Option (List (List ℕ))
 next_closer h ns [] = None
 next_closer h ns (l ∷ ls) = if list_any (matches3 h ls) ns then (if list_any (covers3 h (l ∷ ls)) ns then Some (l ∷ ls) else None)
@@ -79,7 +79,7 @@ next_closer h ns (l ∷ ls) = if list_any (matches3 h ls) ns then (if list_any (
 abbrev pub proves_encloser : Hashing → List Nsec3State → List (List ℕ) → Bool
 proves_encloser h ns encloser = list_any (λ (n : Nsec3State). matches3 h encloser n && not (is_delegation3 n || has n 39)) ns
 
--- what a test says of the closest encloser, where there is a proof of it
+-- what a test says of the closest encloser, if there is a proof of it
 abbrev pub at_encloser : Hashing → List Nsec3State → (List (List ℕ) → Bool) → Option (List (List ℕ)) → Bool
 at_encloser h ns test None = false
 at_encloser h ns test (Some []) = false
@@ -94,7 +94,7 @@ opts_out h ns (Some name) = list_any (λ (n : Nsec3State). covers3 h name n && n
 abbrev pub proves_name_error3 : Hashing → List Nsec3State → List (List ℕ) → Bool
 proves_name_error3 h ns name = at_encloser h ns (λ e. list_any (covers3 h (star ∷ e)) ns) (next_closer h ns name)
 
--- no such type (section 8.5), and for DS also where the name is in a span with Opt-Out (section 8.6)
+-- no such type (section 8.5), and for DS also if the name is in a span with Opt-Out (section 8.6)
 abbrev pub proves_no_data3 : Hashing → List Nsec3State → List (List ℕ) → ℕ → Bool
 proves_no_data3 h ns name t =
     list_any (λ (n : Nsec3State). matches3 h name n && lacks3 t n) ns
@@ -151,10 +151,10 @@ exists_firmly z name = list_any (λ (r : Record). ends_name r.owner name && is_f
 pub record IsChained3 (z : ZoneState) (h : Hashing) (ns : List Nsec3State) : Type 0 where
   -- each name with authority and each delegation point with DS has an NSEC3, and each empty non-terminal that they make
   pub held : (name : List (List ℕ)) → exists_firmly z name ≡ true → is_matched h ns name ≡ true
-  -- of the other names that exist, the next closer name is in a span with Opt-Out where there is none
+  -- of the other names that exist, the next closer name is in a span with Opt-Out if there is none
   pub spared : (name : List (List ℕ)) → exists z name ≡ true → is_below_cut z name ≡ false → is_matched h ns name ≡ false
       → is_opted_out h ns (closer h ns name) ≡ true
-  -- and no other
+  -- each NSEC3 is that of a name that exists and isn't below a cut
   pub owed : (n : Nsec3State) → Contains ns n → (name : List (List ℕ)) × (exists z name ≡ true) × (is_below_cut z name ≡ false)
       × (matches3 h name n ≡ true)
   -- each points to the next: it is one, and none is between
@@ -170,7 +170,7 @@ IsApart z h ns name = is_matched h ns name ≡ true → exists z name ≡ true
 
 -- ---- what is chosen, and what it proves
 
--- the NSEC3 that matches or covers a hash: the last whose hash is not above it, or where all are, the highest
+-- the NSEC3 that matches or covers a hash: the last whose hash is not above it, or if all are, the highest
 pub record IsNearest (ns : List Nsec3State) (o : List ℕ) (n : Nsec3State) : Type 0 where
   pub one : Contains ns n
   pub near : ((is_lower o n.hash ≡ false) × ((m : Nsec3State) → Contains ns m → is_lower o m.hash ≡ false → is_lower n.hash m.hash ≡ false))

@@ -19,15 +19,15 @@ lists n t = list_any (nat_eq t) n.types
 abbrev pub is_before : List (List ℕ) → List (List ℕ) → Bool
 is_before a b = is_lt (name_cmp a b)
 
--- whether an NSEC's owner is not behind a name
+-- whether an NSEC's owner is not after a name
 abbrev pub is_up_to : List (List ℕ) → NsecState → Bool
 is_up_to name n = not (is_before name n.owner)
 
--- each NSEC is before those behind it
+-- each NSEC is before those after it
 abbrev pub AreSorted : List NsecState → Type 0
 AreSorted ns = AllPairs (λ (m : NsecState) (n : NsecState). is_before m.owner n.owner ≡ true) ns
 
--- how many NSECs have an owner that is not behind a name; they are the first ones
+-- how many NSECs have an owner that is not after a name; they are the first ones
 abbrev pub IsCountUpTo : List NsecState → List (List ℕ) → ℕ → Type 0
 IsCountUpTo ns name count = IsPartitionPoint (λ (n : NsecState). is_up_to name n ≡ true) (λ (n : NsecState). is_up_to name n
     ≡ false) ns count

@@ -28,12 +28,12 @@ signatures_of z r = if is_under_dname z r.owner then [] else filter (is_signatur
 abbrev pub is_beside : Record → Record → Bool
 is_beside r s = same_name r.owner s.owner && nat_eq (data_type r.rdata) (data_type s.rdata)
 
--- the RRSIGs of records behind some, once for each RRset
+-- the RRSIGs of records after some, once for each RRset
 abbrev pub signatures : ZoneState → List Record → List Record → List Record
 signatures z seen [] = []
 signatures z seen (r ∷ rs) = (if list_any (is_beside r) seen then [] else signatures_of z r) ++ signatures z (r ∷ seen) rs
 
--- records with their RRSIGs behind them
+-- records with their RRSIGs after them
 abbrev pub with_signatures : ZoneState → List Record → List Record
 with_signatures z rs = rs ++ signatures z [] rs
 
@@ -55,7 +55,7 @@ signed_reply z proofs r = record r {
 abbrev pub is_added : Record → Bool
 is_added r = (is_of 46 r || is_of 47 r) || (is_of 50 r || is_of 43 r)
 
--- a list with records behind it that signing adds
+-- a list with records after it that signing adds
 pub record Grows (plain signed : List Record) : Type 0 where
   pub more : List Record
   pub whole : signed ≡ plain ++ more

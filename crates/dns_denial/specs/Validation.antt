@@ -13,7 +13,7 @@ use Rattle.dns_denial.specs.Nsecs.{NsecState, is_before, lists}
 abbrev pub matches : List (List ℕ) → NsecState → Bool
 matches name n = same_name n.owner name
 
--- a name is behind the owner and before the next name; the next name of the last NSEC is the apex (RFC 4034, section 4.1.1)
+-- a name is after the owner and before the next name; the next name of the last NSEC is the apex (RFC 4034, section 4.1.1)
 abbrev pub covers : List (List ℕ) → List (List ℕ) → NsecState → Bool
 covers apex name n = is_before n.owner name && (is_before name n.next || same_name n.next apex)
 
@@ -47,7 +47,7 @@ abbrev pub shown_encloser : NsecState → List (List ℕ) → List (List ℕ)
 shown_encloser n [] = []
 shown_encloser n (l ∷ ls) = if ends_name n.owner (l ∷ ls) || ends_name n.next (l ∷ ls) then l ∷ ls else shown_encloser n ls
 
--- and the wildcard below it
+-- the wildcard below the closest encloser that an NSEC shows of a name
 abbrev pub shown_wildcard : NsecState → List (List ℕ) → List (List ℕ)
 shown_wildcard n name = star ∷ shown_encloser n name
 

@@ -41,9 +41,9 @@ impl Model for Chain {
 /// Two NSECs that together deny a name, and the wildcard that could stand for it or the wildcard's type.
 #[derive(Drop)]
 pub struct Denial<'a> {
-    /// The last one that isn't behind the name.
+    /// The last one that isn't after the name.
     pub name: &'a Nsec,
-    /// The last one that isn't behind the wildcard.
+    /// The last one that isn't after the wildcard.
     pub wildcard: &'a Nsec,
 }
 
@@ -75,7 +75,7 @@ impl Chain {
         checked(zone, alloc, nsecs)
     }
 
-    /// The NSEC that denies a type at a name that exists; that denies a name, where a wildcard stands for it; or that says of a
+    /// The NSEC that denies a type at a name that exists; that denies a name, if a wildcard stands for it; or that says of a
     /// delegation point that it has no DS.
     pub fn denial(&self, alloc: Global, name: &NameRef<'_>) -> Result<Option<&Nsec>, OutOfMemory>
         ensures last { IfOk result (IsLastOf self.now name.now) }
@@ -91,7 +91,7 @@ impl Chain {
         self.last_up_to(alloc, name)
     }
 
-    /// The last NSEC that isn't behind a name.
+    /// The last NSEC that isn't after a name.
     fn last_up_to(&self, alloc: Global, name: &NameRef<'_>) -> Result<Option<&Nsec>, OutOfMemory>
         ensures { IfOk result (IsLastOf self.now name.now) }
     {
@@ -100,7 +100,7 @@ impl Chain {
     }
 
     /// The NSECs that deny a name and the wildcard that could stand for it, or the name and a type of that wildcard. None only
-    /// where no zone whose chain this is lacks the name.
+    /// if no zone whose chain this is lacks the name.
     pub fn wildcard_denial(
         &self,
         alloc: Global,
@@ -125,7 +125,7 @@ impl Chain {
         }
     }
 
-    /// The last NSEC that isn't behind the wildcard which one shows of a name.
+    /// The last NSEC that isn't after the wildcard which one shows of a name.
     fn last_below(
         &self,
         alloc: Global,

@@ -25,7 +25,7 @@ fn is_to_list(zone: &ZoneTree, resource: &Record, standing: &Standing<'_>, rtype
     is_deniable(rtype) && has_type(zone, &resource.owner, standing, rtype)
 }
 
-/// Whether an NSEC is that of a record's owner, and lists the record's type where it is to be listed.
+/// Whether an NSEC is that of a record's owner, and lists the record's type if it is to be listed.
 fn lists_record(zone: &ZoneTree, resource: &Record, standing: &Standing<'_>, nsec: &Nsec) -> bool
     requires { StandsAt zone.now resource.now.owner standing.now }
     ensures { result ≡ lists_record zone.now resource.now nsec.now }
@@ -143,7 +143,7 @@ fn first_unfounded(
     Ok(None)
 }
 
-/// The owner behind a place; behind the last one the apex.
+/// The owner after a place; after the last one the apex.
 fn owner_behind<'a>(apex: &'a Name, nsecs: &'a [Nsec], place: usize) -> &'a Name
     requires { place < length nsecs.now }
     ensures { (d : NsecState) → result.now ≡ owner_behind apex.now nsecs.now place d }
@@ -154,7 +154,7 @@ fn owner_behind<'a>(apex: &'a Name, nsecs: &'a [Nsec], place: usize) -> &'a Name
     apex
 }
 
-/// The place of the first NSEC that doesn't point to the one behind it, or at the end to the apex.
+/// The place of the first NSEC that doesn't point to the one after it, or at the end to the apex.
 fn first_unlinked(apex: &Name, nsecs: &[Nsec]) -> Option<usize>
     ensures { MatchOption result (AreLinked apex.now nsecs.now (length nsecs.now)) (λ k. IsUnlinked apex.now nsecs.now k) }
 {

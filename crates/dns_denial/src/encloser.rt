@@ -23,7 +23,7 @@ fn encloser<'a>(nsec: &Nsec, name: &NameRef<'a>) -> NameRef<'a>
     left
 }
 
-/// The wildcard below the encloser that an NSEC shows of a name; none where it would be too long.
+/// The wildcard below the encloser that an NSEC shows of a name; none if it would be too long.
 pub(crate) fn wildcard(
     alloc: Global,
     nsec: &Nsec,

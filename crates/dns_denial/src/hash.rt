@@ -43,7 +43,7 @@ impl Model for Hashing {
     ghost view = { λ h. record { salt = h.salt.items; iterations = h.iterations } };
 }
 
-/// SHA-1 of octets and the salt behind them.
+/// SHA-1 of octets and the salt after them.
 fn salted(octets: &[u8], salt: &[u8]) -> [u8; 20]
     ensures { result ≡ sha1 (octets.now ++ salt.now) }
 {
@@ -64,7 +64,7 @@ fn iterated(salt: &[u8], octets: &[u8], iterations: u16) -> [u8; 20]
     hash
 }
 
-/// Appends a label in lower case behind its length.
+/// Appends a label in lower case after its length.
 fn push_canonical(label: &[u8], octets: &mut Vec<u8>) -> Result<(), OutOfMemory>
     requires { length label.now < 256 }
     ensures { OnOk result (octets.new.items ≡ octets.old.items ++ (length label.now ∷ map to_ascii_lowercase label.now)) }

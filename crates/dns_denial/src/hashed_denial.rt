@@ -61,7 +61,7 @@ fn near_of<'a>(
     Ok(Near { nsec, matched })
 }
 
-/// The closest provable encloser of a name that has no NSEC3, where there is one.
+/// The closest provable encloser of a name that has no NSEC3, if there is one.
 fn closest_of<'a, 'n>(
     nsecs: &'a [Nsec3],
     alloc: Global,
@@ -95,9 +95,9 @@ fn closest_of<'a, 'n>(
 }
 
 impl HashedChain {
-    /// The NSEC3s that deny a name, a type at it, or DS at a delegation point: its own, or where it has none those of its
+    /// The NSEC3s that deny a name, a type at it, or DS at a delegation point: its own, or if it has none those of its
     /// closest provable encloser, of the next closer name and of the wildcard (RFC 5155, sections 7.2.1 to 7.2.7). None only
-    /// where no zone whose chain this is has the name below its apex.
+    /// if no zone whose chain this is has the name at or below its apex.
     pub fn denial(
         &self,
         alloc: Global,

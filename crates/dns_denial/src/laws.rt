@@ -7,13 +7,13 @@ ghost use Rattle.dns_denial.specs.Denials.{DsIsProvedAbsent, ExpansionsAreProved
 ghost use Rattle.dns_denial.specs.Signed.{SigningAdds};
 ghost use Rattle.dns_denial.specs.Nsec3.{ExpansionsAreProved3, InsecureDelegationsAreProved3, NameErrorsAreProved3, NoDataIsProved3, OptedOutDelegationsAreProved3, WildcardNoDataIsProved3};
 
-/// The last NSEC that isn't behind a name that doesn't exist, and the last one that isn't behind the wildcard, prove both absent.
+/// The last NSEC that isn't after a name that doesn't exist, and the last one that isn't after the wildcard, prove both absent.
 #[tactic(auto, using(crate::proofs::DenialLaws::name_errors))]
 pub fn name_errors_are_proved()
     ensures { NameErrorsAreProved }
 {}
 
-/// The last NSEC that isn't behind a name that exists proves that it has no records of a type, also at an empty non-terminal.
+/// The last NSEC that isn't after a name that exists proves that it has no records of a type, also at an empty non-terminal.
 #[tactic(auto, using(crate::proofs::DenialLaws::no_data))]
 pub fn no_data_is_proved()
     ensures { NoDataIsProved }
@@ -25,19 +25,19 @@ pub fn wildcard_no_data_is_proved()
     ensures { WildcardNoDataIsProved }
 {}
 
-/// The last NSEC that isn't behind a name proves that no name closer than a wildcard stands for it.
+/// The last NSEC that isn't after a name proves that no name closer than a wildcard stands for it.
 #[tactic(auto, using(crate::proofs::DenialLaws::expansions))]
 pub fn expansions_are_proved()
     ensures { ExpansionsAreProved }
 {}
 
-/// The last NSEC that isn't behind a delegation point is its own, and proves that it has no DS.
+/// The last NSEC that isn't after a delegation point is its own, and proves that it has no DS.
 #[tactic(auto, using(crate::proofs::DenialLaws::insecure_delegations))]
 pub fn insecure_delegations_are_proved()
     ensures { InsecureDelegationsAreProved }
 {}
 
-/// The last NSEC that isn't behind a delegation point proves that it has no DS, where the parent is asked for it.
+/// The last NSEC that isn't after a delegation point proves that it has no DS, if the parent is asked for it.
 #[tactic(auto, using(crate::proofs::DenialLaws::ds_absent))]
 pub fn ds_is_proved_absent()
     ensures { DsIsProvedAbsent }

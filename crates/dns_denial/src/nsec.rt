@@ -81,7 +81,7 @@ impl Nsec {
         self.owner.name_cmp(&other.owner.for_ref()).is_lt()
     }
 
-    /// Whether its owner isn't behind the name of a key.
+    /// Whether its owner isn't after the name of a key.
     pub(crate) fn is_up_to(&self, key: &[u8]) -> bool
         ensures { (name : List (List ℕ)) → key.now ≡ canonical_key name → result ≡ is_up_to name self.now }
     {

@@ -118,7 +118,7 @@ pub(crate) fn nearest<'a>(nsecs: &'a [Nsec3], hash: &[u8]) -> &'a Nsec3
     &nsecs[count - 1]
 }
 
-/// Whether each hash is below those behind it.
+/// Whether each hash is below those after it.
 fn are_sorted(nsecs: &[Nsec3]) -> bool
     ensures { IsTrue result ↔ AreSorted3 nsecs.now }
 {

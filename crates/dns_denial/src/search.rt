@@ -1,4 +1,4 @@
-//! The last NSEC of a chain that isn't behind a name.
+//! The last NSEC of a chain that isn't after a name.
 
 ghost use Rattle.std.specs.Prelude.{◌≡◌, ℕ, List, ◌≤◌, ◌↔◌, length, IsTrue, IfOk};
 ghost use Rattle.dns_order.specs.Keys.{canonical_key};
@@ -10,7 +10,7 @@ use dns_name::{NameRef, OutOfMemory};
 use dns_order::canonical_key;
 use std::alloc::Global;
 
-/// How many NSECs aren't behind the name of a key.
+/// How many NSECs aren't after the name of a key.
 fn count_up_to(nsecs: &[Nsec], key: &[u8]) -> usize
     requires { AreSorted nsecs.now }
     ensures bound { result ≤ length nsecs.now }
@@ -19,7 +19,7 @@ fn count_up_to(nsecs: &[Nsec], key: &[u8]) -> usize
     nsecs.partition_point(|nsec| nsec.is_up_to(key))
 }
 
-/// The last NSEC that isn't behind the name of a key.
+/// The last NSEC that isn't after the name of a key.
 fn last_up_to<'a>(nsecs: &'a [Nsec], key: &[u8]) -> Option<&'a Nsec>
     requires { AreSorted nsecs.now }
     ensures { (name : List (List ℕ)) → key.now ≡ canonical_key name → IsLastOf nsecs.now name result }
@@ -31,7 +31,7 @@ fn last_up_to<'a>(nsecs: &'a [Nsec], key: &[u8]) -> Option<&'a Nsec>
     Some(&nsecs[count - 1])
 }
 
-/// The last NSEC that isn't behind a name.
+/// The last NSEC that isn't after a name.
 pub(crate) fn last_of<'a>(
     nsecs: &'a [Nsec],
     alloc: Global,
@@ -44,7 +44,7 @@ pub(crate) fn last_of<'a>(
     Ok(last_up_to(nsecs, key.as_slice()))
 }
 
-/// Whether each NSEC is before those behind it.
+/// Whether each NSEC is before those after it.
 pub(crate) fn are_sorted(nsecs: &[Nsec]) -> bool
     ensures { IsTrue result ↔ AreSorted nsecs.now }
 {

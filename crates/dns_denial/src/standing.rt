@@ -44,7 +44,7 @@ pub(crate) fn standing_of<'a>(
     }
 }
 
-/// Walks to a name, where it isn't that of which this is said.
+/// Walks to a name, if it isn't that of which this is said.
 pub(crate) fn standing_behind<'a>(
     zone: &'a ZoneTree,
     alloc: Global,

@@ -7,7 +7,7 @@ ghost use Rattle.dns_zone_tree.specs.Wildcards.{star};
 use dns_name::{Name, NameRef, OutOfMemory, names_are_the_grammar};
 use std::alloc::Global;
 
-/// The wildcard below a name; none where it would be too long.
+/// The wildcard below a name; none if it would be too long.
 pub(crate) fn wildcard_below(alloc: Global, name: &NameRef<'_>) -> Result<Option<Name>, OutOfMemory>
     ensures { IfOk result (λ w. MatchOption w (253 < length (spell name.now)) (λ n. n ≡ star ∷ name.now)) }
 {

@@ -51,7 +51,7 @@ may_come_less {count} {n} {m} l h = (λ some. let a : m ≤ count = h.0 some in 
 pub may_come_is : {count n m : ℕ} → n ≡ m → MayCome count m → MayCome count n
 may_come_is e h = rw e h
 
--- where they aren't counted
+-- if they aren't counted
 pub may_come_any : {n : ℕ} → n < 2 ^ 64 - 1 → MayCome 0 (n + 1)
 may_come_any l = (λ some. absurd (some refl), omega arith)
 
@@ -59,7 +59,7 @@ may_come_any l = (λ some. absurd (some refl), omega arith)
 pub may_come_none : {count n : ℕ} → n ≡ 0 → MayCome count n
 may_come_none e = (λ some. omega arith, omega arith)
 
--- where one more may come, not all have
+-- if one more may come, not all have
 pub not_full : {count n : ℕ} → MayCome count (n + 1) → IsFull count n → ⊥
 not_full h (inl f) = let a = h.0 f.0 in let b = f.1 in omega arith
 not_full h (inr e) = let a = h.1 in omega arith

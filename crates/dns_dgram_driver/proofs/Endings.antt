@@ -68,7 +68,7 @@ module _ {W R F : Type 0} (answer : PolledRequest F R → ℕ → Answer) (answe
     output = delivered_same answers (settings_shown first) r.events start.sock_traffic now.sock_traffic m start.failed_sends now.failed_sends sent full r.output;
   }
 
-  -- where nobody waits, any may be owed
+  -- if nobody waits, any may be owed
   pub goes_owing : {w : World} {s : Running W R F} (ns : List ℕ) → LoopGoes answer answers w s false [] w s false ns
   goes_owing {w} {s} ns = record { over = λ h. h; goes = λ first start spare r. ran_as {spare = spare} {spare' = spare} w.sock_traffic refl refl refl (omega arith) (λ looks events o. o) (λ c. nobody c ns) r }
 
@@ -80,7 +80,7 @@ module _ {W R F : Type 0} (answer : PolledRequest F R → ℕ → Answer) (answe
   pub goes_left : {w w1 : World} {s s1 : Running W R F} {a : Bool} {ns ms : List ℕ} → ms ≡ [] → LoopGoes answer answers w s a ns w1 s1 false ms → LoopGoes answer answers w s a ns w1 s1 false []
   goes_left e g = rw e at g
 
-  -- the first one's, whoever is owed behind it
+  -- the first one's, whoever is owed after it
   pub goes_first : {w w1 : World} {s s1 : Running W R F} {first : List ℕ} {n : ℕ} → first ≡ n ∷ [] → Turns answer answers n false w s w1 s1 → (rest : List ℕ) → LoopGoes answer answers w s false (first ++ rest) w1 s1 false rest
   goes_first e t rest = rw e (t.goes rest)
 
@@ -125,7 +125,7 @@ module _ {W R F : Type 0} (answer : PolledRequest F R → ℕ → Answer) (answe
   pub look_goes : {w w1 w2 : World} {s s1 s2 : Running W R F} {b : Bool} {ns : List ℕ} → TakesLook answer answers w s w1 s1 → LoopGoes answer answers w1 s1 true [] w2 s2 b ns → LoopGoes answer answers w s false [] w2 s2 b ns
   look_goes a b = goes_then (a.goes []) b
 
-  -- memory ran out behind the look
+  -- memory ran out after the look
   look_breaks : {w w1 w2 : World} {s s1 : Running W R F} → s1.next ≡ s.next → TakesLook answer answers w s w1 s1 → Breaks answer answers (s1.next + 1) w1 s1 true [] w2 → Breaks answer answers (s.next + 1) w s false [] w2
   look_breaks {s = s} {s1 = s1} e a b = let l : s1.next + 1 ≤ s.next + 1 = omega arith in breaks_then l (a.goes []) b
 

@@ -51,7 +51,7 @@ module _ {W R F : Type 0} (answer : PolledRequest F R → ℕ → Answer) (answe
   left_case true x s d l = sym d
   left_case false x s d l = l refl
 
-  -- nothing stands behind it
+  -- nothing stands after it
   keeps_first : (behind : List (KeptExchange W R F)) (x : KeptExchange W R F) (s : Slate) → KeepsExchange answer answers (x ∷ behind) s → (behind ≡ []) × IsKeptOf answer answers x s
   keeps_first [] x s h = (refl, h)
   keeps_first (y ∷ ys) x s h = absurd h

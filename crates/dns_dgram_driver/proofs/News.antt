@@ -58,7 +58,7 @@ news_by heard look n n1 n2 c c1 c2 a b s t =
       clock = clocked_then a.events b.events c c1 c2 0 0 0 (timed_wide n n1 a.events c c1 a.noted wide.0 s) (timed_wide n1 n2 b.events c1 c2 b.noted wide.1 t);
     }
 
--- where clock and recorder tell
+-- if clock and recorder tell
 pub tells_news : {c c1 c2 j j1 j2 : Type 0} {heard look : Look} {n n1 n2 : List Event} {r r1 r2 : List ClockReading}
     → Observed j1 j (NotedKinds (kinds (new_configurations heard.version look)) n n1) → Observed (c1 × j1) (c × j) (Timed n n1 0 0 r r1)
     → Observed j2 j1 (NotedKinds (kinds (new_end heard.closed look)) n1 n2) → Observed (c2 × j2) (c1 × j1) (Timed n1 n2 0 0 r1 r2)

@@ -80,7 +80,7 @@ ordered_look first looks events heard ready look es k o =
       closed = ap (λ (l : Look). l.closed) (seen_looked first i.records look es) ∙ ap (λ (b : Bool). b || look.closed) o.closed ∙ sym (hears_closed heard look);
     }
 
--- an own event, and the Fault of its exchange where one follows
+-- an own event, and the Fault of its exchange if one follows
 pub ordered_own : (first : Look) (looks : List Look) (events : List Event) (heard : Look) (e : Event) (fault : Option Event) → IsOwnKind e.kind → IsFaultOf e fault
     → Ordered first looks events heard true → Ordered first looks (events ++ e ∷ fault_events fault) heard false
 ordered_own first looks events heard e fault k f o =
@@ -116,6 +116,6 @@ ordered_first first es k = record {
   closed = sym (hears_closed (record first { closed = false }) first);
 }
 
--- where an own event may come, none needs to
+-- if an own event may come, none needs to
 pub ordered_rest : (first : Look) (looks : List Look) (events : List Event) (heard : Look) (ready : Bool) → Ordered first looks events heard ready → Ordered first looks events heard false
 ordered_rest first looks events heard ready o = record { order = o.order; readied = λ h. cc; version = o.version; closed = o.closed }

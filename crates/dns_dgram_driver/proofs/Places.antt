@@ -24,7 +24,7 @@ take_first [] others k h = absurd (omega (arith, h))
 take_first (n ∷ ns) others zero h = refl
 take_first (n ∷ ns) others (suc k) h = take_first ns others k (omega (arith, h))
 
--- the first one goes behind the others, or is kept no more
+-- the first one goes after the others, or is kept no more
 others_behind : (done : Bool) (ns : List ℕ) → (others : List ℕ) × (gone_behind done ns ≡ drop 1 ns ++ others)
 others_behind true ns = ([], sym (append-nil (drop 1 ns)))
 others_behind false ns = (take 1 ns, refl)

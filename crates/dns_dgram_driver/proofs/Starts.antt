@@ -55,7 +55,7 @@ module _ (answers : Serving) (settings : Settings) where
   unfolding waits
   waits_none c = refl
 
--- the first look shows what is heard, but for a shutdown
+-- the first look shows what is heard, except for a shutdown
 abbrev pub before_first : Look → Look
 before_first first = record first { closed = false }
 
@@ -124,7 +124,7 @@ module _ {W R F : Type 0} (answer : PolledRequest F R → ℕ → Answer) (answe
 
   -- ---- the rounds and the last polls
 
-  -- with a fault, or for want of memory, there are no last polls
+  -- with a fault, or because memory ran out, there are no last polls
   pub end_by : (w w1 w2 : World) (s s1 s2 : Running W R F) (count : ℕ) (end : DgramEnd) → end ≢ OutOfMemory → s2.next ≡ s1.next → Stopped answer answers end count w s w1 s1 → Finished answer answers w1 s1 w2 s2 → Ended answer answers end count w s w2 s2
   end_by w w1 w2 s s1 s2 count Shutdown h e a b = end_shutdown answer answers a b
   end_by w w1 w2 s s1 s2 count Counted h e a b = end_count answer answers e a b

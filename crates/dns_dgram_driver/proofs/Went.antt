@@ -14,7 +14,7 @@ use Rattle.dns_dgram_driver.proofs.Counts.{taken_less}
 use Rattle.dns_dgram_driver.proofs.Passes.{passes_same, passes_then}
 use Rattle.dns_dgram_driver.proofs.ObservedLaws.{if_ok_by, on_err_by, tells_two}
 
--- no receive failed where it ended by anything but a fault
+-- no receive failed if it ended by anything but a fault
 received_all : (end : DgramEnd) {r r' : ℕ} → end ≢ Fault → ReceivesBy end r r' → r' ≡ r
 received_all Shutdown n h = h
 received_all Counted n h = h
@@ -74,7 +74,7 @@ module _ {T W D C J R F : Type 0} where
       passes = record { passes = both.passes; taken = t; receives = rw r at l.later; cause = rw r at l.cause; closed = λ e. l.closed (ap (λ (x : DgramEnd). Some x) e) };
     }
 
-    -- a part that only polls comes behind them; where memory runs out in it, that is the end
+    -- a part that only polls comes after them; if memory runs out in it, that is the end
     pub polled_to : {end : DgramEnd} {count : ℕ} {o o1 o2 : DgramLoop T W D C J R F} → WentTo failed_receives failed_sends end count o o1 → OnlyPolls failed_receives failed_sends o1 o2 → WentTo failed_receives failed_sends end count o o2
     polled_to a p = record {
       same = same_then a.same p.went.same;

@@ -20,6 +20,6 @@ fault_nobodys : (e : Event) (f : Option Event) → IsFaultOf e f → WideAreNobo
 fault_nobodys e None h = tt
 fault_nobodys e (Some v) h = ((λ (w : is_wide v.kind ≡ true). let z : false ≡ true = rw h.0 at w in absurd (cc)), tt)
 
--- an own event, and the Fault of its exchange where one follows
+-- an own event, and the Fault of its exchange if one follows
 pub own_nobodys : (e : Event) (f : Option Event) → IsOwnKind e.kind → IsFaultOf e f → WideAreNobodys (e ∷ fault_events f)
 own_nobodys e f k h = let narrow = (own_kind e.kind k).no_wide in ((λ (w : is_wide e.kind ≡ true). absurd (cc)), fault_nobodys e f h)

@@ -46,20 +46,20 @@ pub record OnlyLooks (k k' : Known) : Type 0 where
 abbrev pub ShowsShutdown : List Look → Type 0
 ShowsShutdown looks = list_any (λ l. l.closed) looks ≡ true
 
--- the seat made looks and no other calls, and where the serving ended by a shutdown one of them showed it
+-- the seat made looks and no other calls, and if the serving ended by a shutdown one of them showed it
 pub record LooksBy (end : DgramEnd) (k k' : Known) : Type 0 where
   pub looks : List Look
   pub made : LooksOnly k looks k'
   pub shown : end ≡ Shutdown → ShowsShutdown looks
 
--- the count of failed receives rose where the serving ended by a fault, and else it is the same
+-- the count of failed receives rose if the serving ended by a fault, and else it is the same
 abbrev pub ReceivesBy : DgramEnd → ℕ → ℕ → Type 0
 ReceivesBy Fault r r' = Rose r r'
 ReceivesBy Shutdown r r' = r' ≡ r
 ReceivesBy Counted r r' = r' ≡ r
 ReceivesBy OutOfMemory r r' = r' ≡ r
 
--- a count rose where that is said, and else it is the same
+-- a count rose if that is said, and else it is the same
 abbrev pub RoseIf : Bool → ℕ → ℕ → Type 0
 RoseIf true a b = Rose a b
 RoseIf false a b = b ≡ a
@@ -73,7 +73,7 @@ pub record Clocked (events : List Event) (c c' : List ClockReading) (full full' 
 
 module _ (answers : Serving) (settings : Settings) where
   -- Each datagram received is recorded, in order, under a new number, with its sender's address and its first 1,024 octets. Between
-  -- two of them stands a Turn of each exchange that is unfinished after the first. There are so many more looks, at most, than
+  -- two of them stands a Turn of each exchange that is unfinished after the first. There are that many more looks, at most, than
   -- datagrams, receives that answered Again, and Turns.
   pub record Input (events : List Event) (looks : List Look) (more number : ℕ) (m m' : SockTraffic) : Type 0 where
     pub came : List Packet
@@ -83,7 +83,7 @@ module _ (answers : Serving) (settings : Settings) where
     pub polled : (c : ℕ) → TurnsBetween answers settings c events
     pub looked : length looks + m.empty_receives ≤ length came + turns_in events + m'.empty_receives + more
 
-  -- What was sent is what the events lead to, each datagram to its exchange's address, but for those that a Fault of their exchange
+  -- What was sent is what the events lead to, each datagram to its exchange's address, except for those that a Fault of their exchange
   -- follows. Of the Faults some are late, each with a send that answered Again, and some are of a send that failed. One before the
   -- write timeout in force has passed is of a send that failed.
   pub record Delivered (events : List Event) (m m' : SockTraffic) (fails fails' : ℕ) : Type 0 where
@@ -95,11 +95,11 @@ module _ (answers : Serving) (settings : Settings) where
     pub rose : min (fails + failed) (2 ^ 64 - 1) ≤ fails'
     pub early : early_faults answers settings events ≤ failed
 
--- so many datagrams may be received: no more than are to be served, and no more than can be numbered
+-- that many datagrams may be received: no more than are to be served, and no more than can be numbered
 abbrev pub MayCome : ℕ → ℕ → Type 0
 MayCome count number = IsWithinCount count number × (number ≤ 2 ^ 64 - 1)
 
--- so many datagrams came, or as many as can be numbered
+-- that many datagrams came, or as many as can be numbered
 abbrev pub IsFull : ℕ → ℕ → Type 0
 IsFull count number = ((count ≢ 0) × (number ≡ count)) ⊎ (number ≡ 2 ^ 64 - 1)
 
@@ -110,7 +110,7 @@ EndsBy answers Fault count number first looks events = Unit {0}
 EndsBy answers OutOfMemory count number first looks events = ⊥
 
 -- What was noted from a world to another, by a first look and the looks after it. What all clients hear stands under number 0. No more
--- datagrams were received than may come, and where so many came it ended by that.
+-- datagrams were received than may come, and if that many came it ended by that.
 pub record ServedBy (answers : Serving) (end : DgramEnd) (count : ℕ) (start now : World) : Type 0 where
   pub first : Look
   pub looks : List Look

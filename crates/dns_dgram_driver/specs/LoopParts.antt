@@ -21,7 +21,7 @@ module _ {T W D C J R F : Type 0} where
   abbrev pub loop_observed : (D → Type 0) → (C → Type 0) → (J → Type 0) → DgramLoop T W D C J R F → Type 0
   loop_observed tells ticks notes o = tells o.sock.now × ticks o.clock.now × notes o.journal.now
 
-  -- the same book and service, and the same places of socket, clock, recorder and of what is kept
+  -- book and service are the same, and so are the places of socket, clock, recorder and of what is kept
   pub record SameLoop (o o' : DgramLoop T W D C J R F) : Type 0 where
     pub book : o'.book ≡ o.book
     pub service : o'.service ≡ o.service
@@ -53,13 +53,13 @@ module _ {T W D C J R F : Type 0} where
     pub cause : RoundedSo r (failed_receives o.sock.now) (failed_receives o'.sock.now)
     pub closed : r ≡ Some Shutdown → o'.state.now.heard.closed ≡ true
 
-  -- and what the rounds did up to the loop's end, and what comes behind them
+  -- whatever the objects tell: what the rounds did up to the loop's end, and what comes after them
   pub record WentTo (failed_receives failed_sends : D → ℕ) (end : DgramEnd) (count : ℕ) (o o' : DgramLoop T W D C J R F) : Type 0 where
     pub same : SameLoop o o'
     pub passes : PassesTo end count o.state.now o'.state.now (failed_sends o.sock.now) (failed_sends o'.sock.now)
         (failed_receives o.sock.now) (failed_receives o'.sock.now)
 
-  -- where they tell: this was done, by the result, or memory ran out
+  -- if they tell: this was done, by the result, or memory ran out
   pub record ObservedSo {X : Type 0} (observed_by : DgramLoop T W D C J R F → Type 0) (seen : DgramLoop T W D C J R F → World)
       (did : X → World → Running W R F → World → Running W R F → Type 0) (broke : World → Running W R F → World → Type 0)
       (r : Result X No_memory) (o o' : DgramLoop T W D C J R F) : Type 0 where

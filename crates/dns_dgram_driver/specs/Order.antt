@@ -9,7 +9,7 @@ use Rattle.dns_session.specs.News.{new_end}
 use Rattle.dns_recorder.specs.Woven.{kinds, news_kinds, seen_with}
 use Rattle.dns_dgram_driver.specs.Events.{IsOwnKind}
 
--- a look with its news, or an own event with the Fault of its exchange, where one follows
+-- a look with its news, or an own event with the Fault of its exchange, if one follows
 pub data RecordedPart : Type 0 where
   looked : Look → List Event → RecordedPart
   acted : Event → Option Event → RecordedPart
@@ -45,7 +45,7 @@ AreInOrder before ready (looked look news ∷ rs) = (kinds news ≡ news_kinds b
 AreInOrder before ready (acted event fault ∷ rs) = (ready ≡ true) × IsOwnKind event.kind × IsFaultOf event fault
     × AreInOrder before false rs
 
--- of a first look and the looks after it; the news of the first look are a Shutdown, where it shows one
+-- of a first look and the looks after it; the news of the first look are a Shutdown, if it shows one
 pub record EventsFollowLooks (first : Look) (looks : List Look) (events : List Event) : Type 0 where
   pub opening : List Event
   pub records : List RecordedPart

@@ -10,7 +10,7 @@ use Rattle.dns_session.specs.Slate.{Slate}
 use Rattle.dns_events.specs.declared.settings.Settings.{Settings}
 use Rattle.dns_recorder.specs.Sent.{slate}
 
--- its request is done, or it never had one
+-- an exchange is finished: its request is done, or it never had one
 abbrev pub is_finished : Slate → Bool
 is_finished s = list_all (λ r. r.done) s.requests
 
@@ -21,7 +21,7 @@ waits_by (Datagram addr octets) own finished waiting = not finished
 waits_by (Turn request) own finished waiting = waiting && not (own && nat_eq request 0)
 waits_by _ own finished waiting = waiting
 
--- a Datagram stands only where nobody waits
+-- a Datagram stands only if nobody waits
 abbrev pub MayFollow : EventKind → Bool → Type 0
 MayFollow (Datagram addr octets) waiting = waiting ≡ false
 MayFollow _ waiting = Unit {0}
@@ -42,7 +42,7 @@ module _ (answers : Serving) (settings : Settings) where
   TurnsAfter c q waiting [] = Unit {0}
   TurnsAfter c q waiting (e ∷ es) = MayFollow e.kind waiting × TurnsAfter c (q ++ e ∷ []) (waits_with c q waiting e) es
 
-  -- between two Datagrams stands a Turn of client c, where it is unfinished after the first
+  -- between two Datagrams stands a Turn of client c, if it is unfinished after the first
   unfoldable pub TurnsBetween : ℕ → List Event → Type 0
   TurnsBetween c es = TurnsAfter c [] false es
 

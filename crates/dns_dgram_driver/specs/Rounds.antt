@@ -27,7 +27,7 @@ use Rattle.dns_dgram_driver.specs.declared.serving.DgramEnd.TheVariants.{Shutdow
 use Rattle.dns_dgram_driver.specs.declared.receiving.RecvOutcome.{RecvOutcome}
 use Rattle.dns_dgram_driver.specs.declared.receiving.RecvOutcome.TheVariants.{Continue, Failed as Failed_receive}
 
--- whether a look stands behind the last own event, and what was seen
+-- whether a look stands after the last own event, and what was seen
 abbrev pub is_ready : Bool → List RecordedPart → Bool
 is_ready ready [] = ready
 is_ready ready (looked look news ∷ rs) = is_ready true rs
@@ -38,7 +38,7 @@ seen_in before [] = before
 seen_in before (looked look news ∷ rs) = seen_in (seen_with before look) rs
 seen_in before (acted event fault ∷ rs) = seen_in before rs
 
--- the events are in order, what was heard is what was seen, and where it is ready, an own event may come
+-- the events are in order, what was heard is what was seen, and if it is ready, an own event may come
 pub record Ordered (first : Look) (looks : List Look) (events : List Event) (heard : Look) (ready : Bool) : Type 0 where
   pub order : EventsFollowLooks first looks events
   pub readied : ready ≡ true → is_ready true order.records ≡ true
@@ -50,7 +50,7 @@ Among c ns = list_any (nat_eq c) ns ≡ true
 
 -- Whatever socket, clock and recorder tell: the seat made looks and no other calls, of the same book. A shutdown that was heard of
 -- stays so, and a new one was
--- shown by one of these looks. The count of failed sends rose where a failed one is known of since, and else it is the same.
+-- shown by one of these looks. The count of failed sends rose if a failed one is known of since, and else it is the same.
 pub record PassesOn {W R F : Type 0} (s s' : Running W R F) (f f' : ℕ) : Type 0 where
   pub looks : List Look
   pub made : LooksOnly s.seat.known looks s'.seat.known
@@ -60,13 +60,13 @@ pub record PassesOn {W R F : Type 0} (s s' : Running W R F) (f f' : ℕ) : Type 
   pub later : f ≤ f'
   pub rose : SendsRose s.send_failed s'.send_failed f f'
 
--- the count of failed receives rose where a receive or a round failed, and else it is the same
+-- the count of failed receives rose if a receive or a round failed, and else it is the same
 abbrev pub ReceivedSo : Result RecvOutcome No_memory → ℕ → ℕ → Type 0
 ReceivedSo (Ok Failed_receive) r r' = Rose r r'
 ReceivedSo (Ok Continue) r r' = r' ≡ r
 ReceivedSo (Err e) r r' = r' ≡ r
 
--- a receive and a round begin one exchange at most, and none where the receive failed or none was made
+-- a receive and a round begin one exchange at most, and none if the receive failed or none was made
 abbrev pub ReceivedUpTo : Result RecvOutcome No_memory → ℕ → ℕ → Type 0
 ReceivedUpTo (Ok Failed_receive) next next' = next' ≡ next
 ReceivedUpTo (Ok Continue) next next' = next' ≤ next + 1
@@ -79,7 +79,7 @@ RoundedUpTo (Some Counted) next next' = next' ≡ next
 RoundedUpTo (Some Fault) next next' = next' ≡ next
 RoundedUpTo (Some OutOfMemory) next next' = next' ≤ next + 1
 
--- so many datagrams may come, and one more where the loop ended by a shutdown or a fault
+-- that many datagrams may come, and one more if the loop ended by a shutdown or a fault
 abbrev pub TakenBy : DgramEnd → ℕ → ℕ → Type 0
 TakenBy Shutdown count next = MayCome count (next + 1)
 TakenBy Counted count next = MayCome count next
@@ -94,8 +94,8 @@ abbrev pub RoundedSo : Option DgramEnd → ℕ → ℕ → Type 0
 RoundedSo None r r' = r' ≡ r
 RoundedSo (Some end) r r' = ReceivesBy end r r'
 
--- Whatever they tell, up to the loop's end: so many datagrams came, the count of failed receives rose by a fault alone, and a shutdown
--- was heard of where it ended by one.
+-- Whatever they tell, up to the loop's end: that many datagrams came, the count of failed receives rose by a fault alone, and a
+-- shutdown was heard of if it ended by one.
 pub record PassesTo {W R F : Type 0} (end : DgramEnd) (count : ℕ) (s s' : Running W R F) (f f' r r' : ℕ) : Type 0 where
   pub passes : PassesOn s s' f f'
   pub taken : TakenBy end count s'.next
@@ -114,8 +114,8 @@ module _ {W R F : Type 0} (answer : PolledRequest F R → ℕ → Answer) (answe
     pub unused : (c : ℕ) → s.next ≤ c → (slate answers settings c events).phase ≡ Unused
     pub heard : conf settings events ≡ conf_of s.heard
 
-  -- What was done from a start to now, by a first look. Of owed exchanges each waits for its Turn, and no other does. So many looks
-  -- came to nothing, beside the one that an own event may follow.
+  -- What was done from a start to now, by a first look. Of owed exchanges each waits for its Turn, and no other does. That many looks
+  -- came to nothing, besides the one that an own event may follow.
   pub record Ran (first : Look) (start now : World) (s : Running W R F) (ready : Bool) (owed : List ℕ) (spare : ℕ) : Type 0 where
     pub looks : List Look
     pub events : List Event
@@ -137,7 +137,7 @@ module _ {W R F : Type 0} (answer : PolledRequest F R → ℕ → Answer) (answe
     pub over : s.heard.closed ≡ true → s'.heard.closed ≡ true
     pub goes : (first : Look) (start : World) (spare : ℕ) → Ran first start w s ready owed spare → Ran first start w' s' ready' owed' spare
 
-  -- want of memory in a step, after which no more than so many datagrams were received
+  -- running out of memory in a step, after which no more than that many datagrams were received
   pub record Breaks (most : ℕ) (w : World) (s : Running W R F) (ready : Bool) (owed : List ℕ) (w' : World) : Type 0 where
     pub breaks : (first : Look) (start : World) (spare count : ℕ) → MayCome count most → Ran first start w s ready owed spare
         → CutOff answers count start w'
@@ -150,7 +150,7 @@ module _ {W R F : Type 0} (answer : PolledRequest F R → ℕ → Answer) (answe
   pub record Turns (client : ℕ) (ready : Bool) (w : World) (s : Running W R F) (w' : World) (s' : Running W R F) : Type 0 where
     pub goes : (rest : List ℕ) → LoopGoes w s ready (client ∷ rest) w' s' false rest
 
-  -- want of memory, whoever waits
+  -- out of memory, whoever waits
   pub record StepFails (ready : Bool) (w : World) (s : Running W R F) (w' : World) : Type 0 where
     pub breaks : (owed : List ℕ) → Breaks s.next w s ready owed w'
 
@@ -178,12 +178,12 @@ module _ {W R F : Type 0} (answer : PolledRequest F R → ℕ → Answer) (answe
   Rounded ready count (Some Fault) w s w' s' = LoopGoes w s ready [] w' s' true []
   Rounded ready count (Some OutOfMemory) w s w' s' = MayCome count (s.next + 1) × Breaks (s.next + 1) w s ready [] w'
 
-  -- the rounds and what comes behind them, with one look at most that came to nothing
+  -- the rounds and what comes after them, with one look at most that came to nothing
   pub record Idles (w : World) (s : Running W R F) (w' : World) (s' : Running W R F) : Type 0 where
     pub over : s.heard.closed ≡ true → s'.heard.closed ≡ true
     pub goes : (first : Look) (start : World) (spare : ℕ) → Ran first start w s false [] spare → Ran first start w' s' false [] (1 + spare)
 
-  -- want of memory in them, where so many datagrams were to come
+  -- running out of memory in them, if that many datagrams were to come
   pub record CutsOff (count : ℕ) (w : World) (s : Running W R F) (w' : World) : Type 0 where
     pub most : ℕ
     pub may_come : MayCome count most

@@ -62,11 +62,11 @@ module _ (answers : Serving) (settings : Settings) where
   delivered_after q [] = []
   delivered_after q (e ∷ es) = nothing_if (fails_next e.client es) (gained answers settings q e) ++ delivered_after (q ++ e ∷ []) es
 
-  -- what is sent for some events, but for those that a Fault of their exchange follows
+  -- what is sent for some events, except for those that a Fault of their exchange follows
   unfoldable pub delivered : List Event → List Output
   delivered es = delivered_after [] es
 
-  -- and to whom
+  -- what is sent for some events and to whom, except for those that a Fault of their exchange follows
   abbrev pub packets_delivered : List Event → List Packet
   packets_delivered es = all_addressed es (delivered es)
 

@@ -59,7 +59,7 @@ pub record NewsNoted (heard look : Look) (n n' : List Event) (c c' : List ClockR
   pub noted : n' ≡ n ++ events
   pub clock : Clocked events c c' 0 0
 
--- datagrams were sent by a socket, and beside that only sends answered Again
+-- datagrams were sent by a socket, and besides that only sends answered Again
 pub record Posts (packets : List Packet) (m m' : SockTraffic) : Type 0 where
   pub received : m'.received ≡ m.received
   pub sent : m'.sent ≡ m.sent ++ packets
@@ -112,7 +112,7 @@ pub record Unsent (n n' : List Event) (m m' : SockTraffic) : Type 0 where
   pub received : m'.received ≡ m.received
   pub sent : m'.sent ≡ m.sent
 
--- the datagram of the last output, where that is one
+-- the datagram of the last output, if that is one
 abbrev pub octets_of : Output → Option (List ℕ)
 octets_of (Datagram client octets) = Some octets
 octets_of _ = None
@@ -142,7 +142,7 @@ IsFirstNumber n xs = take 1 (numbers_of xs) ≡ n ∷ []
 abbrev pub StandFirst : {W R F : Type 0} → List ℕ → List (KeptExchange W R F) → Type 0
 StandFirst ns xs = (others : List ℕ) × (numbers_of xs ≡ ns ++ others)
 
--- the first goes behind the others, unless it is done
+-- the first goes after the others, unless it is done
 abbrev pub gone_behind : {X : Type 0} → Bool → List X → List X
 gone_behind done xs = if done then drop 1 xs else drop 1 xs ++ take 1 xs
 
@@ -184,7 +184,7 @@ module _ {W R F : Type 0} (answer : PolledRequest F R → ℕ → Answer) (answe
     pub done_is : (e : Event) (s : Slate) → e.kind ≡ Turn 0 → IsKeptOf old s → done ≡ is_finished (rule answers e s).0
     pub left : (e : Event) (s : Slate) → e.kind ≡ Turn 0 → IsKeptOf old s → done ≡ false → IsKeptOf new (rule answers e s).0
 
-  -- its datagram, by what was heard of the book
+  -- an exchange is begun by its datagram, after what was heard of the book
   pub record Begun (heard : Look) (e : Event) (addr : SocketAddr) (octets : List ℕ) (old : List (KeptExchange W R F))
       (packet : Option Packet) (new : List (KeptExchange W R F)) : Type 0 where
     pub leads : (s : Slate) → IsUnused s → s.conf ≡ conf_of heard

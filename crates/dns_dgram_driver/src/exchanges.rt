@@ -26,7 +26,7 @@ fn packet_to(octets: Option<Octets>, addr: SocketAddr) -> Option<Packet>
     }
 }
 
-/// Keeps an exchange under its number, behind all others, unless its request is done.
+/// Keeps an exchange under its number, after all others, unless its request is done.
 fn keep<W: SharedService>(
     exchanges: &mut VecDeque<KeptExchange<W>>,
     number: u64,
@@ -114,7 +114,7 @@ fn turn_front<W: SharedService>(
     Ok((packet, done))
 }
 
-/// The first exchange goes behind all others, or is kept no more where its request is done.
+/// The first exchange goes after all others, or is kept no more if its request is done.
 fn go_behind<W: SharedService>(exchanges: &mut VecDeque<KeptExchange<W>>, done: bool)
     requires { 0 < deque_len exchanges.old }
     ensures { exchanges.new.items ≡ gone_behind done exchanges.old.items }
@@ -134,7 +134,7 @@ pub(crate) fn number_first<W: SharedService>(exchanges: &VecDeque<KeptExchange<W
     exchanges[0].number
 }
 
-/// A Turn of the first exchange: what is sent for it, and whether its request is done. It goes behind all others, or is kept no more.
+/// A Turn of the first exchange: what is sent for it, and whether its request is done. It goes after all others, or is kept no more.
 pub(crate) fn turn_first<W: SharedService>(
     alloc: Global,
     exchanges: &mut VecDeque<KeptExchange<W>>,

@@ -71,7 +71,7 @@ pub(crate) fn note_kind<J: Recorder>(
     journal.note(alloc, &event)
 }
 
-/// Notes a Turn of the latest moment, which is that of the datagram before it where no wait came between.
+/// Notes a Turn of the latest moment, which is that of the datagram before it if no wait came between.
 pub(crate) fn note_turn<C: Clock, J: Recorder>(
     alloc: Global,
     clock: &mut C,

@@ -91,7 +91,7 @@ impl<R: Wait, W: SharedService, D: AsyncDgramSock, C: Clock, J: Recorder> DgramL
         }
     }
 
-    /// Polls the first exchange, which then stands behind all others, or is kept no more where its request is done: that is given.
+    /// Polls the first exchange, which then stands after all others, or is kept no more if its request is done: that is given.
     fn poll_first(&mut self) -> Result<bool, OutOfMemory>
         requires book { self.old.state.now.seat.book ≡ self.old.book.now }
         requires there { 0 < deque_len self.old.state.now.exchanges }

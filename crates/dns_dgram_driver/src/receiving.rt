@@ -89,7 +89,7 @@ impl<R: Wait, W: SharedService, D: AsyncDgramSock, C: Clock, J: Recorder> DgramL
         }
     }
 
-    /// How long a receive may be waited for: not long where an exchange is to be polled again.
+    /// How long a receive may be waited for: not long if an exchange is to be polled again.
     fn recv_wait(&self) -> u64 {
         if self.state.exchanges.is_empty() {
             MAX_WAIT_MS
@@ -98,7 +98,7 @@ impl<R: Wait, W: SharedService, D: AsyncDgramSock, C: Clock, J: Recorder> DgramL
         }
     }
 
-    /// One receive. Where no datagram is there it waits.
+    /// One receive. If no datagram is there it waits.
     #[tactic(auto, using(crate::proofs::Passes::passes_same))]
     fn receive(&mut self, buf: &mut [u8]) -> Result<RecvOutcome, OutOfMemory>
         requires can_call { W.can_call self.old.service.now }
@@ -135,7 +135,7 @@ impl<R: Wait, W: SharedService, D: AsyncDgramSock, C: Clock, J: Recorder> DgramL
     }
 
     /// What follows a look: one receive, and a poll of each unfinished exchange, unless a shutdown was heard of. How the loop ends by
-    /// that is given, where it ends.
+    /// that is given, if it ends.
     fn receive_and_poll(&mut self, buf: &mut [u8]) -> Option<DgramEnd>
         requires ready { MayReceive W.can_call self.old }
         requires buffer { length buf.old ≡ 1024 }
@@ -160,7 +160,7 @@ impl<R: Wait, W: SharedService, D: AsyncDgramSock, C: Clock, J: Recorder> DgramL
     }
 }
 
-/// Whether so many datagrams came as were to be served, where the count isn't 0, or as can be numbered.
+/// Whether as many datagrams came as were to be served, if the count isn't 0, or as can be numbered.
 fn is_full(next: u64, count: u64) -> bool
     requires within { MayCome count next }
     ensures full { result ≡ true → IsFull count next }
@@ -180,8 +180,8 @@ impl<R: Wait, W: SharedService, D: AsyncDgramSock, C: Clock, J: Recorder> DgramL
     C,
     J,
 > {
-    /// One look, one receive, and a poll of each unfinished exchange, unless so many datagrams came. How the loop ends by that is
-    /// given, where it ends.
+    /// One look, one receive, and a poll of each unfinished exchange, unless that many datagrams came. How the loop ends by that is
+    /// given, if it ends.
     fn run_once(&mut self, buf: &mut [u8], count: u64) -> Option<DgramEnd>
         requires book { self.old.state.now.seat.book ≡ self.old.book.now }
         requires can_call { W.can_call self.old.service.now }
@@ -204,7 +204,7 @@ impl<R: Wait, W: SharedService, D: AsyncDgramSock, C: Clock, J: Recorder> DgramL
         }
     }
 
-    /// Receives until so many datagrams came, a look shows a shutdown, or a receive fails.
+    /// Receives until that many datagrams came, a look shows a shutdown, or a receive fails.
     pub(crate) fn take_all(&mut self, buf: &mut [u8], count: u64) -> DgramEnd
         requires book { self.old.state.now.seat.book ≡ self.old.book.now }
         requires can_call { W.can_call self.old.service.now }

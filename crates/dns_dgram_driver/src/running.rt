@@ -19,7 +19,7 @@ pub(crate) struct KeptExchange<W: SharedService> {
     pub(crate) addr: SocketAddr,
 }
 
-/// The exchanges whose requests aren't done, by rising number, those behind all others that this round of polls has passed; the number
+/// The exchanges whose requests aren't done, by rising number, those after all others that this round of polls has passed; the number
 /// of the next one, and what was heard of the book: its version, the configurations in force, and whether it was shut down. The seat
 /// that looks are made from, and whether a send failed.
 #[derive(Drop)]
@@ -48,7 +48,7 @@ pub(crate) fn begun<W: SharedService>(alloc: Global, heard: Look, seat: BookSeat
     }
 }
 
-/// What is left where the serving ends: the seat, and whether a send failed.
+/// What is left when the serving ends: the seat, and whether a send failed.
 pub(crate) fn left<W: SharedService>(state: Running<W>) -> (BookSeat, bool)
     ensures seat { result.0 ≡ state.seat }
     ensures sends { result.1 ≡ state.send_failed }

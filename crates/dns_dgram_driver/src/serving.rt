@@ -24,7 +24,7 @@ use std::sync::Wait;
 pub enum DgramEnd {
     /// A look showed a shutdown, and every exchange is finished.
     Shutdown,
-    /// So many datagrams came as were to be served, or as can be numbered, and every exchange is finished.
+    /// As many datagrams came as were to be served, or as can be numbered, and every exchange is finished.
     Counted,
     /// A receive failed.
     Fault,
@@ -127,7 +127,7 @@ pub fn serve_datagrams_with_sends<
 ) -> (BookSeat, DgramEnd, bool)
     requires book { seat.book ≡ book.now }
     requires can_call { W.can_call service.now }
-    // Where socket, clock and recorder tell.
+    // If socket, clock and recorder tell.
     ensures observed { Observed (D.tells sock.new × C.tells clock.new × J.tells journal.new)
         (D.tells sock.old × C.tells clock.old × J.tells journal.old)
         (ServedTo (serving (W.answer service.now) (W.hint service.now)) result.1 count
@@ -158,7 +158,7 @@ pub fn serve_datagrams_with_sends<
     (seat, end, send_failed)
 }
 
-/// Serves datagrams until a look shows a shutdown, a receive fails, or so many came, where the count isn't 0. Each receive and
+/// Serves datagrams until a look shows a shutdown, a receive fails, or that many came, if the count isn't 0. Each receive and
 /// each poll has a look before it, whose news are noted at once. Between two receives each unfinished exchange is polled once, by
 /// rising number. After a shutdown or the last datagram each is polled to its end.
 pub fn serve_datagrams<R: Wait, D: AsyncDgramSock, C: Clock, J: Recorder, W: SharedService>(
@@ -174,7 +174,7 @@ pub fn serve_datagrams<R: Wait, D: AsyncDgramSock, C: Clock, J: Recorder, W: Sha
 ) -> (BookSeat, DgramEnd)
     requires book { seat.book ≡ book.now }
     requires can_call { W.can_call service.now }
-    // Where socket, clock and recorder tell.
+    // If socket, clock and recorder tell.
     ensures observed { Observed (D.tells sock.new × C.tells clock.new × J.tells journal.new)
         (D.tells sock.old × C.tells clock.old × J.tells journal.old)
         (ServedTo (serving (W.answer service.now) (W.hint service.now)) result.1 count

@@ -125,7 +125,7 @@ feeds d _ k s same h = absurd h
 pub goes : (c d : Connection) → c.is_closing ≡ false → unless_closing c d ≡ d
 goes c d e = ap (λ (b : Bool). if b then c else d) e
 
--- as many pass as there are at most, and fewer where one doesn't
+-- as many pass as there are at most, and fewer if one doesn't
 module _ (p : SlateRequest → Bool) where
   at_most_by : (r : SlateRequest) (rs : List SlateRequest) (b : Bool) → p r ≡ b → passing p rs ≤ length rs → passing p (r ∷ rs) ≤ suc (length rs)
   at_most_by r rs true e h = rw (e) (omega arith)

@@ -69,7 +69,7 @@ asked_few timeout addr at secs f rs true e h =
     omega (arith, many, below)
 asked_few timeout addr at secs f rs false e h = h
 
--- the slate past a frame, but for what the frame asks
+-- the slate past a frame, except for what the frame asks
 abbrev past_frame : ℕ → List ℕ → Slate → Slate
 past_frame at f s = record s { received = s.received ++ framed f; taken = s.taken + 1; reset_at = at }
 
@@ -132,7 +132,7 @@ module _ (at secs : ℕ) (f : List ℕ) (k : Caller) (s : Slate) (d : Connection
       subst (Follows (took (Query n) at secs f d k)) (sym ruled)
       (subst (λ (x : List SlateRequest). Follows (record k { connection = d; requests = x }, []) (t, [])) (sym knows) (follows_open (record k { connection = d; requests = rs }) [] t stands))
 
--- the answer to a response is queued, where there is room
+-- the answer to a response is queued, if there is room
 abbrev as_shown : ConnectionInvoker → Slate → ConnectionInvoker
 as_shown i s = record i { idle_timeout = s.connection.idle_timeout; budget = spending s; queue = buffer s.queue s.bound }
 

@@ -69,7 +69,7 @@ framed-either at k m r timeout s true inside = refl
 framed-either at k m r timeout s false true = refl
 framed-either at k m r timeout s false false = refl
 
--- its enqueued
+-- what becomes of the frame
 enqueued-either : (i : ConnectionInvoker) (m : List ℕ) (space inside : Bool) → finds_room i ≡ space → is_in_transaction i.status ≡ inside
     → enqueued_as (Some m) i ≡ Some (if space then Queued else (if inside then Held else Dropped))
 enqueued-either i m true inside e d = rw (e) refl
@@ -104,7 +104,7 @@ shows-of k r s i q a w = record {
   idle_timeout = refl;
 }
 
--- the same of an invoker that a frame was given
+-- of an invoker that a frame was given
 shows-given : (at k : ℕ) (frame : Option (List ℕ)) (r : SlateRequest) (s : Slate) (status : InvokerStatus) (timeout : ℕ) (i : ConnectionInvoker)
     → i ≡ invoker_in at status (timed timeout s) → ShowsIn (queueing frame i) (shown_by k r (queueing frame i) s)
 shows-given at k frame r s status timeout i e =

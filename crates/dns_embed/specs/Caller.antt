@@ -1,5 +1,5 @@
 -- Who makes the calls of one client's connection: what it has of the client, and by which call it follows each event that the client
--- hears. A frame is sent once it was written, and the connection is closed where a call says so. A call that takes, queues and writes
+-- hears. A frame is sent once it was written, and the connection is closed if a call says so. A call that takes, queues and writes
 -- nothing, as without memory, is no event. The answers are those of the wrapped service, by request and poll.
 use Rattle.std.specs.Prelude.{◌≡◌, ℕ, ◌⊎◌, ◌==◌, List, [], ◌∷◌, ◌++◌, length, nat_lt, slice_get, slice_set, MatchBool, if◌then◌else◌, false, Option, Some, None}
 use Rattle.dns_name.specs.declared.address.SocketAddr.{SocketAddr}
@@ -55,7 +55,7 @@ closed why k = (record k { phase = Closed; requests = [] }, Closed_output k.clie
 
 -- ---- octets
 
--- those that were fed stand behind those that weren't taken, and all else but the moment is as it was
+-- those that were fed stand after those that weren't taken, and all else but the moment is as it was
 abbrev pub IsFed : Connection → Connection → Type 0
 IsFed c d = (o : List ℕ) × (untaken d ≡ untaken c ++ o) × SameQueue (at_moment 0 c) (at_moment 0 d)
 
@@ -92,7 +92,7 @@ turned n r d k = (record k { connection = d; requests = slice_set k.requests n r
 abbrev pub ending : ℕ → SlateRequest → Connection → Connection
 ending at r c = if is_in_transaction r.status then unless_closing c (giving at r.status (Feedback EndTransaction) None c) else c
 
--- `give` is called with an item, or `offer` where nothing but a reply is in it, outside of a transaction
+-- `give` is called with an item, or `offer` if nothing but a reply is in it, outside of a transaction
 abbrev pub IsGiven : ℕ → SlateRequest → Item → Connection → Connection → Type 0
 IsGiven at r item c d =
     (d ≡ unless_closing c (giving at r.status (heard_of item) (frame_for r.request.octets item) c))
@@ -137,7 +137,7 @@ wrote Written_as.Frame (Some m) d k = (record k { connection = d }, Frame k.clie
 wrote Written_as.TimedOut m d k = closed WriteTimeout k
 wrote _ m d k = goes_on d k
 
--- behind the last frame of one that is to be closed `front` says that it is closed
+-- after the last frame of one that is to be closed `front` says that it is closed
 abbrev pub wrote_last : Why → Written → Option (List ℕ) → Connection → Caller → Sending
 wrote_last why Written_as.Frame (Some m) d k =
     if length d.invoker.queue.items == 0 then ((closed why k).0, Frame k.client m ∷ (closed why k).1)

@@ -52,7 +52,7 @@ in_front (Some f) fs = f ∷ fs
 abbrev pub waiting : Connection → List (List ℕ)
 waiting c = in_front c.front (frames c.framer)
 
--- the octets of the stream that weren't taken, those of no whole frame too: the frame in front stands behind its length
+-- the octets of the stream that weren't taken, those of no whole frame too: the frame in front stands after its length
 abbrev pub untaken_by : Option (List ℕ) → List ℕ → List ℕ
 untaken_by None o = o
 untaken_by (Some f) o = framed f ++ o
@@ -60,7 +60,7 @@ untaken_by (Some f) o = framed f ++ o
 abbrev pub untaken : Connection → List ℕ
 untaken c = untaken_by c.front c.framer
 
--- it works for an event at this moment
+-- a connection works for an event at this moment
 abbrev pub at_moment : ℕ → Connection → Connection
 at_moment at c = record c { invoker = record c.invoker { at = at } }
 
@@ -83,7 +83,7 @@ configured config c = record c {
   invoker = record c.invoker { idle_timeout = config.idle_timeout; budget = rebudgeted config c.invoker.budget };
 }
 
--- its timer may close it: no transaction holds it open, and it isn't to be closed anyway
+-- its timer may close a connection: no transaction holds it open, and it isn't to be closed anyway
 abbrev pub is_timed : Connection → Bool
 is_timed c = not c.is_closing && (c.transactions == 0)
 
@@ -91,7 +91,7 @@ is_timed c = not c.is_closing && (c.transactions == 0)
 abbrev pub deadline_of : ℕ → Connection → ℕ
 deadline_of now c = if is_timed c then deadline c.timer c.invoker.idle_timeout now else last_moment
 
--- it was idle for too long
+-- a connection was idle for too long at a moment
 abbrev pub is_idle : ℕ → Connection → Bool
 is_idle now c = is_timed c && is_expired c.timer c.invoker.idle_timeout now
 
@@ -103,7 +103,7 @@ pub record SameQueue (c d : Connection) : Type 0 where
   pub transactions : d.transactions ≡ c.transactions
   pub is_closing : d.is_closing ≡ c.is_closing
 
--- the first frame is taken, and no octet behind it
+-- the first frame is taken, and no octet after it
 abbrev pub IsTaken : List ℕ → Connection → Connection → Type 0
 IsTaken f c d = (waiting c ≡ f ∷ waiting d) × (untaken c ≡ framed f ++ untaken d)
 

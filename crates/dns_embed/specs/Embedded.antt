@@ -128,7 +128,7 @@ first_reply (Ready (Some (Err e))) = None
 first_reply (Ready None) = None
 first_reply Pending = None
 
--- the reply that is sent, if one is, where no service is asked
+-- the reply that is sent, if one is, if no service is asked
 abbrev pub replied : Action → Option (Option Msg)
 replied Nothing = Some None
 replied (Reply b) = Some (Some b.message)

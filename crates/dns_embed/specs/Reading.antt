@@ -20,7 +20,7 @@ pub record Reading : Type 0 where
   pub at : ℕ
   pub left : HeaderCounts
 
--- from its first item on, behind the header
+-- from its first item on, after the header
 abbrev pub reading_from : List ℕ → Reading
 reading_from o = record { octets = o; at = 12; left = counts_of o }
 
@@ -42,12 +42,12 @@ one_less Answer n = record n { ancount = n.ancount - 1 }
 one_less Authority n = record n { nscount = n.nscount - 1 }
 one_less Additional n = record n { arcount = n.arcount - 1 }
 
--- the octets of a question, names uncompressed, and the place behind it
+-- the octets of a question, names uncompressed, and the place after it
 abbrev pub question_by : Result (Question × ℕ) ParseError → Result (List ℕ × ℕ) ParseError
 question_by (Ok q) = Ok (question_octets q.0, q.1)
 question_by (Err e) = Err e
 
--- those of a record
+-- the octets of a record, names uncompressed, and the place after it
 abbrev pub record_with : ℕ → Result ResourceRecord ParseError → Result (List ℕ × ℕ) ParseError
 record_with end (Ok r) = Ok (record_octets r, end)
 record_with end (Err e) = Err e

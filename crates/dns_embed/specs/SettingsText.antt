@@ -27,7 +27,7 @@ whole_settings (Err e) = Err e
 abbrev pub settings_in : List ℕ → Result Settings (ℕ × Reason)
 settings_in text = whole_settings (after_lines said_with 1 nothing_said (lines text))
 
--- a reader gave the settings, or the first bad line and the reason, unless memory was wanting
+-- a reader gave the settings, or the first bad line and the reason, unless memory ran out
 abbrev pub ReadsSettings : Result Settings TraceError → Result Settings (ℕ × Reason) → Type 0
 ReadsSettings (Ok s) read = read ≡ Ok s
 ReadsSettings (Err e) read = RefusesLine e read

@@ -13,7 +13,7 @@ use Rattle.dns_embed.specs.declared.connection.Connection.{Connection}
 use Rattle.dns_embed.specs.declared.transactions.Heard.{Heard}
 use Rattle.dns_embed.specs.declared.transactions.Heard.TheVariants.{Nothing, Feedback, Failure}
 
--- it is heard
+-- an invoker hears a feedback of the service, or nothing
 abbrev pub hearing : Heard → ConnectionInvoker → ConnectionInvoker
 hearing Nothing i = i
 hearing (Feedback f) i = after_feedback connection_invoking f i
@@ -23,7 +23,7 @@ hearing Failure i = record i { status = Aborting }
 abbrev pub frame_in : List ℕ → Option (List ℕ)
 frame_in o = if length o == 0 then None else Some (framed o)
 
--- a frame is queued, where there is room
+-- a frame is queued, if there is room
 abbrev pub queueing : Option (List ℕ) → ConnectionInvoker → ConnectionInvoker
 queueing None i = i
 queueing (Some m) i = offered i m
@@ -33,7 +33,7 @@ abbrev pub enqueued_as : Option (List ℕ) → ConnectionInvoker → Option Enqu
 enqueued_as None i = None
 enqueued_as (Some m) i = Some (enqueued_by i m).1
 
--- what becomes of it where nobody waits for it any more
+-- what becomes of it if nobody waits for it any more
 abbrev pub dropped_as : Option (List ℕ) → Option Enqueued
 dropped_as None = None
 dropped_as (Some m) = Some Dropped

@@ -72,7 +72,7 @@ GivesAsTurned = (answers : Serving) (at k : ℕ) (c : Connection) (s : Slate) (r
     (turn_request answers at k r.held r s ≡ shown_by k (past_item item d.invoker.status held r) d.invoker s)
     × ShowsIn d.invoker (turn_request answers at k r.held r s)
 
--- a reply that was held is given again, and nothing is heard: it is queued where there is room, and else all stays
+-- a reply that was held is given again, and nothing is heard: it is queued if there is room, and else all stays
 abbrev pub GivesHeldAsTurned : Type 0
 GivesHeldAsTurned = (answers : Serving) (at k : ℕ) (c : Connection) (s : Slate) (r : SlateRequest) (m : List ℕ)
     → ShowsIn c.invoker s → r.held ≡ Some m

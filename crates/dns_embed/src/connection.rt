@@ -19,9 +19,9 @@ use std::alloc::Global;
 pub enum Next {
     /// There is none yet.
     Waits,
-    /// It is a query. It stands at the front of the buffer, and so many octets are its.
+    /// It is a query. It stands at the front of the buffer, and that many octets are its.
     Query(usize),
-    /// It is a query of so many octets, for which the buffer is too short. It stays.
+    /// It is a query of that many octets, for which the buffer is too short. It stays.
     NoRoom(usize),
     /// It is a response, which was answered with FORMERR if there was room.
     Response,
@@ -194,7 +194,7 @@ impl Connection {
     }
 
     /// What the service of a request gave, at a moment in ms: what it tells is heard, and then the octets of its reply, at most
-    /// 65,535, are queued as a frame, where there is room. No octets are no reply. It says how far the request is then, and what
+    /// 65,535, are queued as a frame, if there is room. No octets are no reply. It says how far the request is then, and what
     /// became of its reply: one that is Held is given again, with nothing to be heard. Once it is to be closed nothing is heard, and
     /// the reply is dropped. If there is no memory all stays.
     pub fn give(
@@ -242,7 +242,7 @@ impl Connection {
         }
     }
 
-    /// The front frame was written, at a moment in ms, in so many ms. An emptied queue resets the timer.
+    /// The front frame was written, at a moment in ms, in that many ms. An emptied queue resets the timer.
     pub fn written(&mut self, at: u64, took: u64) -> Written
         ensures { WriteIs at took self.old self.new result }
     {

@@ -31,7 +31,7 @@
 //!
 //! # What a body could still get away with
 //!
-//! Want of memory at any call that says so, and how long a call takes.
+//! Running out of memory at any call that says so, and how long a call takes.
 #![tactic(auto)]
 
 mod action;

@@ -32,9 +32,9 @@ pub enum ItemSection {
 pub enum ReadItem {
     /// None is left.
     End,
-    /// It is an item of a section. It stands at the front of the buffer, and so many octets are its.
+    /// It is an item of a section. It stands at the front of the buffer, and that many octets are its.
     Item(ItemSection, usize),
-    /// It is an item of so many octets, for which the buffer is too short. It stays.
+    /// It is an item of that many octets, for which the buffer is too short. It stays.
     NoRoom(usize),
     /// It can't be read. It stays.
     Unreadable,
@@ -143,7 +143,7 @@ fn one_less(section: ItemSection, left: HeaderCounts) -> HeaderCounts
     }
 }
 
-/// The item of a section at a place of a message, and the place behind it.
+/// The item of a section at a place of a message, and the place after it.
 fn item_in(
     alloc: Global,
     section: ItemSection,
@@ -162,7 +162,7 @@ fn item_in(
     }
 }
 
-/// The question at a place of a message, and the place behind it.
+/// The question at a place of a message, and the place after it.
 fn question_octets(alloc: Global, message: &[u8], at: usize) -> Result<(Octets, usize), ParseError>
     requires { at ≤ length message.now }
     ensures value { GivesParsed result (question_by (question_at message.now at)) }
@@ -174,7 +174,7 @@ fn question_octets(alloc: Global, message: &[u8], at: usize) -> Result<(Octets, 
     Ok((Octets::from_vec(octets), end))
 }
 
-/// The record at a place of a message, and the place behind it.
+/// The record at a place of a message, and the place after it.
 fn record_octets(alloc: Global, message: &[u8], at: usize) -> Result<(Octets, usize), ParseError>
     requires { at ≤ length message.now }
     ensures value { GivesParsed result (record_by (standing_at message.now at)) }

@@ -8,7 +8,7 @@ use dns_framing::{ConnectionInvoker, ServiceInvoker, is_in_transaction};
 use dns_service::{Enqueued, InvokerStatus, Octets, OutOfMemory, ServiceFeedback};
 use std::alloc::Global;
 
-/// What is heard of a request, beside its reply.
+/// What is heard of a request, besides its reply.
 #[derive(Clone, Copy)]
 pub enum Heard {
     /// Nothing.
@@ -30,7 +30,7 @@ pub(crate) fn hear(invoker: &mut ConnectionInvoker, heard: Heard)
     }
 }
 
-/// Queues the frame of a reply, where there is one and it finds room.
+/// Queues the frame of a reply, if there is one and it finds room.
 pub(crate) fn enqueue(invoker: &mut ConnectionInvoker, frame: Option<Octets>) -> Option<Enqueued>
     ensures enqueued { result ≡ enqueued_as frame invoker.old }
     ensures queue { invoker.new ≡ queueing frame invoker.old }
@@ -80,7 +80,7 @@ pub(crate) fn frame_in(alloc: Global, reply: &[u8]) -> Result<Option<Octets>, Ou
     Ok(Some(frame))
 }
 
-/// A message behind its length in two octets (RFC 1035, section 4.2.2).
+/// A message after its length in two octets (RFC 1035, section 4.2.2).
 pub(crate) fn frame(alloc: Global, message: &[u8]) -> Result<Octets, OutOfMemory>
     requires { length message.now ≤ 65535 }
     ensures { IfOk result (λ o. o ≡ framed message.now) }

@@ -77,7 +77,7 @@ in_quotes x c =
     else if nat_eq c 92 then Ok (keeps_octet QuotedEscaped x c, false)
     else Ok (keeps_octet Quoted x c, false)
 
--- behind a backslash, where LF alone can't stand
+-- after a backslash, where LF alone can't stand
 abbrev pub escaped_in : Mode → Scan → ℕ → Scanned
 escaped_in m x c = if nat_eq c 10 then Err (x.line, Escape) else Ok (keeps_octet m x c, false)
 

@@ -20,16 +20,16 @@ abbrev pub ◌>>=◌ : {A B E : Type 0} → Result A E → (A → Result B E) �
 abbrev pub refuse : {A : Type 0} → ℕ → EntryReason → LineRead A
 refuse line r = Err (line, r)
 
--- nothing, or a refusal where the test fails
+-- nothing, or a refusal if the test fails
 abbrev pub unless_at : ℕ → EntryReason → Bool → LineRead (Unit {0})
 unless_at line r b = if b then Ok tt else Err (line, r)
 
--- an error is the refusal that is read, or want of memory
+-- an error is the refusal that is read, or out of memory
 abbrev pub FailsAs : {A : Type 0} → ZoneFileError → LineRead A → Type 0
 FailsAs OutOfMemory read = Unit {0}
 FailsAs (Refused line r) read = read ≡ Err (line, r)
 
--- what is read is given, unless memory was wanting
+-- what is read is given, unless memory ran out
 abbrev pub Gives : {X A : Type 0} → (X → A) → Result X ZoneFileError → LineRead A → Type 0
 Gives view (Ok x) read = read ≡ Ok (view x)
 Gives view (Err e) read = FailsAs e read
@@ -47,7 +47,7 @@ some_or line r None = Err (line, r)
 abbrev pub bare : Word → LineRead (List ℕ)
 bare w = if w.quoted then Err (w.line, Quoted) else Ok w.octets
 
--- the first word and those behind it; one that is missing is missing where the entry ends
+-- the first word and those after it; one that is missing is missing where the entry ends
 abbrev pub first_word : ℕ → List Word → LineRead (Word × List Word)
 first_word line [] = Err (line, Missing)
 first_word line (w ∷ ws) = Ok (w, ws)

@@ -23,6 +23,7 @@ impl Model for WordText {
 }
 
 impl WordText {
+    /// No octet.
     pub fn new(alloc: Global) -> WordText
         ensures { result ≡ [] }
     {
@@ -31,12 +32,14 @@ impl WordText {
         }
     }
 
+    /// The octets.
     pub fn as_slice(&self) -> &[u8]
         ensures { result.now ≡ self.now }
     {
         self.octets.as_slice()
     }
 
+    /// Appends an octet.
     pub fn push(&mut self, octet: u8) -> Result<(), AllocError>
         ensures { OnOk result (self.new ≡ self.old ++ octet ∷ []) }
     {
@@ -47,6 +50,7 @@ impl WordText {
         Ok(())
     }
 
+    /// Appends octets.
     pub fn extend(&mut self, octets: &[u8]) -> Result<(), AllocError>
         ensures { OnOk result (self.new ≡ self.old ++ octets.now) }
     {
@@ -54,6 +58,7 @@ impl WordText {
         Ok(())
     }
 
+    /// Takes all octets away; their room stays.
     pub fn clear(&mut self)
         ensures { self.new ≡ [] }
     {
@@ -87,6 +92,7 @@ impl Model for WordList {
 }
 
 impl WordList {
+    /// No word.
     pub fn new(alloc: Global) -> WordList
         ensures { result ≡ [] }
     {
@@ -96,12 +102,14 @@ impl WordList {
         }
     }
 
+    /// The words.
     pub fn as_slice(&self) -> &[Word]
         ensures { result.now ≡ self.now }
     {
         self.words.as_slice()
     }
 
+    /// Appends a word.
     pub fn push(&mut self, word: Word) -> Result<(), AllocError>
         ensures { OnOk result (self.new ≡ self.old ++ word ∷ []) }
     {

@@ -14,7 +14,7 @@ pub enum EntryReason {
     Quote,
     /// A backslash ends its line, or stands in front of no three digits of a number below 256.
     Escape,
-    /// A word behind `$` is none of ORIGIN and TTL.
+    /// A word after `$` is none of ORIGIN and TTL.
     Directive,
     /// `$INCLUDE`, which isn't read.
     Include,

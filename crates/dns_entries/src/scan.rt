@@ -249,7 +249,7 @@ impl Scan {
         Ok(false)
     }
 
-    /// An octet behind a backslash.
+    /// An octet after a backslash.
     fn escaped_in(&mut self, mode: Mode, octet: u8) -> Result<bool, ZoneFileError>
         ensures line { IfOk result (λ whole. line_behind self.new whole ≤ self.old.line + 1) }
         ensures value { Gives (λ whole. (self.new, whole)) result (escaped_in mode self.old octet) }

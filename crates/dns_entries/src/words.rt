@@ -14,7 +14,7 @@ pub fn refused(line: u64, reason: EntryReason) -> ZoneFileError
     ZoneFileError::Refused { line, reason }
 }
 
-/// Nothing, or a refusal where the test fails.
+/// Nothing, or a refusal if the test fails.
 pub fn unless_at(line: u64, reason: EntryReason, test: bool) -> Result<(), ZoneFileError>
     ensures { Gives (λ u. u) result (unless_at line reason test) }
 {
@@ -59,7 +59,7 @@ pub fn bare(word: &Word) -> Result<&[u8], ZoneFileError>
     Ok(word.octets.as_slice())
 }
 
-/// The first word and those behind it.
+/// The first word and those after it.
 pub fn first_word(line: u64, words: &[Word]) -> Result<(&Word, &[Word]), ZoneFileError>
     ensures { Gives (λ r. (r.0.now, r.1.now)) result (first_word line words.now) }
 {

@@ -39,7 +39,7 @@ impl DgramConfig {
         self.max_response_size = size.map(|size| size.clamp(512, 4096));
     }
 
-    /// The largest response in octets, where one is set.
+    /// The largest response in octets, if one is set.
     pub fn max_response_size(&self) -> Option<u16>
         ensures value { result ≡ self.now.max_response_size }
         ensures range { IsResponseSize result }
@@ -175,7 +175,7 @@ impl ConnectionConfig {
         self.response_budget = count.map(|count| count.clamp(1, 1_000_000));
     }
 
-    /// How many responses may be queued in one window of time, where that is limited.
+    /// How many responses may be queued in one window of time, if that is limited.
     pub fn response_budget(&self) -> Option<u32>
         ensures value { result ≡ self.now.response_budget }
         ensures range { IsBudget result }

@@ -37,7 +37,7 @@ pub enum EventKind {
     Fault,
     /// The connection is to be closed, once what waits was written.
     Close,
-    /// A queued frame is written. It waited and was written for so many ms.
+    /// A queued frame is written. It waited and was written for that many ms.
     Write {
         took: u64,
     },
@@ -87,7 +87,7 @@ pub enum Why {
 pub enum Output {
     /// A datagram, whole.
     Datagram { client: u64, octets: Octets },
-    /// A message behind its length in two octets (RFC 1035, section 4.2.2).
+    /// A message after its length in two octets (RFC 1035, section 4.2.2).
     Frame { client: u64, octets: Octets },
     /// The connection is closed.
     Closed { client: u64, why: Why },

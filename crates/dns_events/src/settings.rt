@@ -15,7 +15,7 @@ pub struct Settings {
     pub strict: bool,
     /// Whether EDNS is on (RFC 6891).
     pub edns: bool,
-    /// The secret of server cookies, where they are on (RFC 7873).
+    /// The secret of server cookies, if they are on (RFC 7873).
     pub cookies: Option<[u8; 16]>,
     /// The addresses that are denied service without a cookie.
     pub denied: Addrs,

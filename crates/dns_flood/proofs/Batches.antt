@@ -8,7 +8,7 @@ use Rattle.dns_events.specs.declared.event.Output.{Output}
 use Rattle.dns_script.specs.Line.{lines_of, line_of}
 use Rattle.dns_flood.specs.Writes.{Pending, Pours}
 
--- the lines before output i, its line, and those behind it
+-- the lines before output i, its line, and those after it
 parts : (i : ℕ) (os : List Output) (d : Output) → i < length os → lines_of os ≡ lines_of (take i os) ++ (line_of (get_or os i d) ++ lines_of (drop (i + 1) os))
 parts i os d lt =
     ap lines_of (sym (take-append-drop i os)) ∙ flat_map-append line_of (take i os) (drop i os)

@@ -30,7 +30,7 @@ pub counts_more : (a b : List Output) → output_counts (a ++ b) ≡ sum_of (out
 unfolding output_counts
 counts_more a b = rw (count_by_more is_datagram_sent a b, count_by_more is_frame a b, count_by_more closes a b, count_by_more turns_away a b) refl
 
--- a sum is exact where it is far below the last number of 128 bits
+-- a sum is exact if it is far below the last number of 128 bits
 room_left : (x y : ℕ) → y ≡ min x (2 ^ 128 - 1) → y ≤ 2 ^ 127 + 2 ^ 64 → min x (2 ^ 128 - 1) ≡ x
 room_left x y e h = omega (arith, e, h)
 

@@ -56,7 +56,7 @@ pub record IsAtMost (most : ℕ) (c : Counts) : Type 0 where
   pub turned_away : c.turned_away ≤ most
 
 -- whatever the settings and the events before, of which there are fewer than versions, and what was sent for them was counted:
--- so is what is sent with e behind them, which was served too
+-- so is what is sent with e after them, which was served too
 abbrev pub CountsEvent : {W R F : Type 0} → (PolledRequest F R → ℕ → Answer) → Serving → Server W R F → Server W R F → Event
     → Counts → Counts → Type 0
 CountsEvent answer answers old new e counts more = (settings : Settings) (q : List Event) → length q < last_version

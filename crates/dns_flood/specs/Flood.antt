@@ -17,7 +17,7 @@ use Rattle.dns_trace.specs.Said.{nothing_said}
 abbrev pub next_number : ℕ → ℕ
 next_number x = (x * 6364136223846793005 + 1442695040888963407) % 2 ^ 64
 
--- its numbers: the seed has number 0
+-- the numbers of the generator: the seed has number 0
 abbrev pub number_at : ℕ → ℕ → ℕ
 number_at seed zero = seed
 number_at seed (suc i) = next_number (number_at seed i)
@@ -51,7 +51,7 @@ flood_kind d =
 abbrev pub flood_event : ℕ → ℕ → Event
 flood_event i d = record { at = i; secs = i; client = 16 * (i / 512) + d % 16; kind = flood_kind d }
 
--- the first so many events, of which the first has number 1
+-- the first that many events, of which the first has number 1
 abbrev pub flood_events : ℕ → ℕ → List Event
 flood_events seed zero = []
 flood_events seed (suc n) = flood_events seed n ++ flood_event (suc n) (drawn (number_at seed (suc n))) ∷ []

@@ -81,7 +81,7 @@ impl Counts {
         }
     }
 
-    /// Outputs more. Each number stays at 2^128 - 1 where it would pass that.
+    /// Outputs more. Each number stays at 2^128 - 1 if it would pass that.
     pub fn add(&mut self, outputs: &[Output])
         ensures sum { self.new ≡ saturated_sum self.old (output_counts outputs.now) }
         ensures few { (most : ℕ) → IsAtMost most self.old → IsAtMost (most + 2 ^ 64) self.new }

@@ -21,7 +21,7 @@ const SENDER: SocketAddr = SocketAddr {
     port: 53,
 };
 
-/// The query of a flood, behind its length.
+/// The query of a flood, after its length.
 const FRAME: [u8; 19] = [0, 17, 18, 52, 1, 0, 0, 1, 0, 0, 0, 0, 0, 0, 0, 0, 1, 0, 1];
 
 /// A piece of a connection's stream.

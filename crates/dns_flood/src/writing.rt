@@ -41,7 +41,7 @@ impl From<WriteFault> for WriteError {
     }
 }
 
-/// From so many octets on, lines that were kept back are written.
+/// From that many octets on, lines that were kept back are written.
 const BATCH: usize = 65_536;
 
 /// Writes the lines that are kept back, once they are many. After an error a front of them was written.
@@ -65,7 +65,7 @@ pub fn pour<W: Sink>(sink: &mut W, text: &mut Vec<u8>) -> Result<(), WriteFault>
     }
 }
 
-/// Keeps the line of an output back, behind others.
+/// Keeps the line of an output back, after others.
 fn keep(alloc: Global, text: &mut Vec<u8>, output: &Output) -> Result<(), OutOfMemory>
     ensures { OnOk result (text.new.items ≡ text.old.items ++ line_of output.now) }
 {

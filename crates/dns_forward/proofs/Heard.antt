@@ -58,11 +58,11 @@ none_there (x ∷ xs) h = absurd (cc)
 
 -- ---- an asking that has ended, and one that hasn't
 
--- what is left where these arrivals matched and these ticks were due
+-- what is left if these arrivals matched and these ticks were due
 abbrev Left : Inquiry → List (List ℕ) → List ℕ → ℕ → ℕ → Type 0
 Left q xs ats left last = HasLeft (ended_by q.tries xs ats) q ats left last
 
--- what is left behind events
+-- what is left after events
 abbrev pub LeftBehind : Inquiry → List AskingEvent → ℕ → ℕ → Type 0
 LeftBehind q es left last = HasLeft (has_ended q es) q (due_ticks q es) left last
 
@@ -73,11 +73,11 @@ ended_so false q xs ats left last e h z =
     let all : left + length ats ≡ q.tries = h.0 in
     absurd (omega arith)
 
--- where none is left it has ended
+-- if none is left it has ended
 ended : (q : Inquiry) (xs : List (List ℕ)) (ats : List ℕ) (left last : ℕ) → Left q xs ats left last → left ≡ 0 → ended_by q.tries xs ats ≡ true
 ended q xs ats left last h z = ended_so (ended_by q.tries xs ats) q xs ats left last refl h z
 
--- where one is left it hasn't, and what is kept is that
+-- if one is left it hasn't, and what is kept is that
 pub record Goes (q : Inquiry) (xs : List (List ℕ)) (ats : List ℕ) (left last : ℕ) : Type 0 where
   pub going : ended_by q.tries xs ats ≡ false
   pub all : left + length ats ≡ q.tries
@@ -90,14 +90,14 @@ goes_so false q xs ats left last e h n = record { going = e; all = h.0; latest =
 goes : (q : Inquiry) (xs : List (List ℕ)) (ats : List ℕ) (left last : ℕ) → Left q xs ats left last → (left ≡ 0 → ⊥) → Goes q xs ats left last
 goes q xs ats left last h n = goes_so (ended_by q.tries xs ats) q xs ats left last refl h n
 
--- none is left where it has ended
+-- none is left if it has ended
 over : (q : Inquiry) (xs : List (List ℕ)) (ats : List ℕ) (left last : ℕ) → ended_by q.tries xs ats ≡ true → left ≡ 0 → Left q xs ats left last
 over q xs ats left last e z = subst (λ (b : Bool). HasLeft b q ats left last) (sym e) z
 
 on : (q : Inquiry) (xs : List (List ℕ)) (ats : List ℕ) (left last : ℕ) → ended_by q.tries xs ats ≡ false → left + length ats ≡ q.tries → last ≡ last_from q.at ats → Left q xs ats left last
 on q xs ats left last e a l = subst (λ (b : Bool). HasLeft b q ats left last) (sym e) (a, l)
 
--- what is left behind other events that match alike
+-- what is left after other events that match alike
 same_left : (q : Inquiry) (xs ys : List (List ℕ)) (ats bts : List ℕ) (left last : ℕ) → ys ≡ xs → bts ≡ ats → Left q xs ats left last → Left q ys bts left last
 same_left q xs ys ats bts left last e f h =
     subst (λ (zs : List (List ℕ)). Left q zs bts left last) (sym e) (subst (λ (cts : List ℕ). Left q xs cts left last) (sym f) h)
@@ -117,7 +117,7 @@ answered : (tries : ℕ) (xs : List (List ℕ)) (o : List ℕ) (ats : List ℕ) 
 answered tries [] o ats = refl
 answered tries (x ∷ xs) o ats = refl
 
--- it has ended exactly where none is left
+-- it has ended exactly if none is left
 none_left_so : (b : Bool) (q : Inquiry) (xs : List (List ℕ)) (ats : List ℕ) (left last : ℕ) → ended_by q.tries xs ats ≡ b → HasLeft b q ats left last → nat_eq left 0 ≡ b
 none_left_so true q xs ats left last e h = eq_true left 0 h
 none_left_so false q xs ats left last e h =
@@ -128,7 +128,7 @@ none_left_so false q xs ats left last e h =
 pub none_left : (q : Inquiry) (es : List AskingEvent) (left last : ℕ) → LeftBehind q es left last → nat_eq left 0 ≡ has_ended q es
 none_left q es left last h = none_left_so (has_ended q es) q (matching_arrivals q es) (due_ticks q es) left last refl h
 
--- no tick is due any more where none is left
+-- no tick is due any more if none is left
 pub no_deadline : (q : Inquiry) (es : List AskingEvent) (left last : ℕ) → LeftBehind q es left last → left ≡ 0 → deadline q es ≡ None
 no_deadline q es left last h z =
     ap (λ (b : Bool). cond b None (Some (first_due q.timeout (last_from q.at (due_ticks q es))))) (ended q (matching_arrivals q es) (due_ticks q es) left last h z)

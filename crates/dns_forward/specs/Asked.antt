@@ -35,7 +35,7 @@ moment_of_tick (Tick at) = Some at
 abbrev pub matching_arrivals : Inquiry → List AskingEvent → List (List ℕ)
 matching_arrivals q es = filter (λ (o : List ℕ). matches q.message q.id o) (filter_map arrival es)
 
--- a tick is due once the timeout passed since the last send, and where the moment at which it passes has no number
+-- a tick is due once the timeout passed since the last send, and if the moment at which it passes has no number
 abbrev pub is_due : ℕ → ℕ → ℕ → Bool
 is_due timeout last at = nat_le (last + timeout) at || nat_lt 18446744073709551615 (last + timeout)
 
@@ -53,7 +53,7 @@ abbrev pub last_from : ℕ → List ℕ → ℕ
 last_from at [] = at
 last_from at (next ∷ ats) = last_from next ats
 
--- it has ended where something matched, or as many ticks were due as there are tries, the last of which gave it up
+-- it has ended if something matched, or as many ticks were due as there are tries, the last of which gave it up
 abbrev pub ended_by : ℕ → List (List ℕ) → List ℕ → Bool
 ended_by tries arrivals ats = is_some (first_of arrivals) || nat_le tries (length ats)
 
@@ -69,12 +69,12 @@ abbrev pub tick_outcome : Inquiry → List ℕ → ℕ → Ticked
 tick_outcome q ats at = if is_due q.timeout (last_from q.at ats) at
     then (if nat_lt (suc (length ats)) q.tries then Send else GaveUp) else Nothing
 
--- what comes of an event behind others
+-- what comes of an event after others
 abbrev pub outcome : Inquiry → List AskingEvent → AskingEvent → AskingOutcome
 outcome q es (Arrived at o) = OfArrival (if has_ended q es then None else arrival_outcome q o)
 outcome q es (Tick at) = OfTick (if has_ended q es then Nothing else tick_outcome q (due_ticks q es) at)
 
--- what comes of each event, behind others
+-- what comes of each event, after others
 abbrev pub outcomes : Inquiry → List AskingEvent → List AskingEvent → List AskingOutcome
 outcomes q before [] = []
 outcomes q before (e ∷ es) = outcome q before e ∷ outcomes q (before ++ e ∷ []) es
@@ -87,7 +87,7 @@ abbrev pub asked : List ℕ → ℕ → ℕ → ℕ → ℕ → List AskingEvent
 asked message id tries timeout at events
     = asked_by (record { message = message; id = id; tries = tries; timeout = timeout; at = at }) events
 
--- what outcomes lead to: the answer, Timeout where it was given up, and else nothing yet
+-- what outcomes lead to: the answer, Timeout if it was given up, and else nothing yet
 abbrev pub led_to : List AskingOutcome → SentAnswer
 led_to [] = Pending
 led_to (OfArrival (Some m) ∷ os) = Ready (Ok m)
@@ -101,10 +101,10 @@ abbrev pub led_on : SentAnswer → AskingOutcome → SentAnswer
 led_on (Ready answer) o = Ready answer
 led_on Pending o = led_to (o ∷ [])
 
--- the first moment at which a tick is due; that is 0 where the moment at which the timeout passes has no number
+-- the first moment at which a tick is due; that is 0 if the moment at which the timeout passes has no number
 abbrev pub first_due : ℕ → ℕ → ℕ
 first_due timeout last = if nat_lt 18446744073709551615 (last + timeout) then 0 else last + timeout
 
--- the deadline behind events: the first moment at which a tick is due, counted from the last send; none once it has ended
+-- the deadline after events: the first moment at which a tick is due, counted from the last send; none once it has ended
 abbrev pub deadline : Inquiry → List AskingEvent → Option ℕ
 deadline q es = if has_ended q es then None else Some (first_due q.timeout (last_from q.at (due_ticks q es)))

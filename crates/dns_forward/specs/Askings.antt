@@ -14,7 +14,7 @@ pub record Expects (q : Inquiry) (e : Expected) : Type 0 where
   pub opcode : e.opcode ≡ (header_of q.message).opcode
   pub question : e.question ≡ single_question q.message
 
--- no tick can be due any more where it has ended; else so many as there are tries, less those that were due, and the last send is kept
+-- no tick can be due any more if it has ended; else as many as there are tries, less those that were due, and the last send is kept
 abbrev pub HasLeft : Bool → Inquiry → List ℕ → ℕ → ℕ → Type 0
 HasLeft true q ats left last = left ≡ 0
 HasLeft false q ats left last = (left + length ats ≡ q.tries) × (last ≡ last_from q.at ats)

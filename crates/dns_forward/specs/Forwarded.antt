@@ -7,7 +7,7 @@ use Rattle.dns_route.specs.RequestMessage.{RequestState}
 use Rattle.dns_route.specs.Routes.{Route, routed}
 use Rattle.dns_route.specs.Turns.{TurnAnswer}
 
--- an upstream: what it answers to a request, where it is asked for it at a number
+-- an upstream: what it answers to a request, if it is asked for it at a number
 abbrev pub Upstream : Type 0
 Upstream = RequestState → ℕ → SentAnswer
 

@@ -11,7 +11,7 @@ use Rattle.dns_message.specs.declared.question.Question.{Question}
 abbrev pub with_id : ℕ → List ℕ → List ℕ
 with_id id o = two id ++ drop 2 o
 
--- the question of a message that has one alone, where it is readable
+-- the question of a message that has one alone, if it is readable
 abbrev pub single_question : List ℕ → Option Question
 single_question o = if nat_eq (field 4 o) 1 then first_of (questions_of o).0 else None
 

@@ -98,7 +98,7 @@ fn led_on(answer: Answered, outcome: AskingOutcome) -> Answered
     }
 }
 
-/// What outcomes lead to: the first answer, Timeout where it was given up, and else nothing yet.
+/// What outcomes lead to: the first answer, Timeout if it was given up, and else nothing yet.
 pub fn led_to(outcomes: Vec<AskingOutcome>) -> Polled<Result<Message, SendError>>
     ensures { result ≡ led_to outcomes.items }
 {

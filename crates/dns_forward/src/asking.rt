@@ -94,7 +94,7 @@ impl Asking {
         self.left == 0
     }
 
-    /// The deadline: the first moment at which a tick is due, so that its owner need not look before. It is 0 where the moment
+    /// The deadline: the first moment at which a tick is due, so that its owner need not look before. It is 0 if the moment
     /// at which the timeout passes would be past 2^64 - 1. There is none once it has ended.
     pub fn deadline(&self) -> Option<u64>
         ensures { (q : Inquiry) (es : List AskingEvent) → HasHeard q es self.now → result ≡ deadline q es }
@@ -136,7 +136,7 @@ impl Asking {
     }
 
     /// What is to be done at a moment: to send again if the last send is the timeout ago or more, or if the moment of that would
-    /// pass 2^64 - 1; or to give up, where no send is left.
+    /// pass 2^64 - 1; or to give up, if no send is left.
     pub fn tick(&mut self, at: u64) -> Ticked
         ensures { Hears self.old self.new (AskingEvent.Tick at) (AskingOutcome.OfTick result) }
     {

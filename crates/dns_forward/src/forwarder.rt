@@ -57,7 +57,7 @@ impl<S: SingleService> Forwarding<S> {
         }
     }
 
-    /// Adds a service under a name, behind those that were added before. A refused call leaves the forwarder.
+    /// Adds a service under a name, after those that were added before. A refused call leaves the forwarder.
     pub fn add_service(&mut self, alloc: Global, name: Name, service: S) -> Result<(), OutOfMemory>
         ensures ok { OnOk result (self.new ≡ self.old ++ (name, service) ∷ []) }
         ensures forwards { (us : List (Route Upstream)) (u : Upstream) → S.answer service ≡ relayed u → Forwards S.answer us self.old
@@ -69,7 +69,7 @@ impl<S: SingleService> Forwarding<S> {
 }
 
 impl Forwarding<ClientTransportToSingleService<BoxClientTransport>> {
-    /// Adds an upstream under a name, behind those that were added before. A refused call leaves the forwarder.
+    /// Adds an upstream under a name, after those that were added before. A refused call leaves the forwarder.
     pub fn add(
         &mut self,
         alloc: Global,

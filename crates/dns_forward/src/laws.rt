@@ -24,7 +24,7 @@ pub fn forwarded_replies_respond()
     wrapped_replies_respond();
 }
 
-/// Services of one type stand for upstreams where they answer under their names as these are relayed: what a forwarder of them
+/// Services of one type stand for upstreams if they answer under their names as these are relayed: what a forwarder of them
 /// answers is what is forwarded to these.
 pub fn relaying_services_forward<S: SingleService>()
     ensures { (us : List (Route Upstream)) (rs : List (Route S)) → answered_under S.answer rs ≡ answered_under relayed us

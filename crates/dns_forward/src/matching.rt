@@ -64,7 +64,7 @@ impl Expected {
     }
 }
 
-/// The question of a message that has one alone, where it is readable.
+/// The question of a message that has one alone, if it is readable.
 fn single_question<'a>(message: &MessageRef<'a>) -> Option<QuestionRef<'a>>
     ensures { result ≡ single_question message.now }
 {

@@ -45,12 +45,12 @@ use Rattle.dns_proxy.specs.Fronts.{Fronting, IsTaken, fronting}
 use Rattle.dns_proxy.specs.Proxied.{sent_by, sent_over}
 use Rattle.dns_fronts.specs.declared.server_post.ServerPost.{ServerPost}
 use Rattle.dns_fronts.specs.declared.server_post.ServerRule.{ServerRule}
-use Rattle.dns_fronts.specs.Served.{AreWithin, behind, post_of, served, server_by, server_rule, sized_request, taken_behind}
+use Rattle.dns_fronts.specs.ServerReplies.{AreWithin, behind, post_of, served, server_by, server_rule, sized_request, taken_behind}
 use Rattle.dns_fronts.proofs.Takings.{mapped-once}
 
 -- ---- how a request is taken
 
--- two rules, one behind the other, are one
+-- two rules, one after the other, are one
 composed : (f g : Msg → Msg) (m : Option Msg) → option_map f (option_map g m) ≡ option_map (λ x. f (g x)) m
 composed f g None = refl
 composed f g (Some m) = refl
@@ -75,7 +75,7 @@ limit-hinted : (h : Option ℕ) (t : TransportSpecificContext) → limit_over (h
 limit-hinted h (Udp d) = refl
 limit-hinted h (NonUdp d) = refl
 
--- what the replies say by the hint that a request has behind the call of the front inside
+-- what the replies say by the hint that a request has after the call of the front inside
 post-left : (cookie : Option Cookie) (opt : OwnOpt) (q new : Req (Unit {0})) (h : Option ℕ) (reserved : ℕ) → new ≡ record q { transport = hinted h q.transport; reserved = reserved }
     → post_of cookie opt (limit_over new.transport (limit (hint_of new.transport))) ≡ post_of cookie opt (limit_over q.transport (limit h))
 post-left cookie opt q new h reserved kept =
@@ -185,7 +185,7 @@ module _ (fits : (n : ℕ) (m : Msg) → 512 ≤ n → length (wire (cut n m)) �
       let q : (header_of o).qr ≡ false = or-second (nat_lt (length o) header_size) (header_of o).qr asks in
       rw (l, q) (append-nil _)
 
-  -- what stands behind a rule whose limit is that of the hint
+  -- what stands after a rule whose limit is that of the hint
   module _ (size : ℕ) (secret : Option (List ℕ)) (hint : Req (Unit {0}) → Option ℕ) (over : Item → Req (Unit {0}) → ℕ → Answer) (asks : Req (Unit {0}) → Option (List ℕ)) where
     abbrev served_front : Fronting
     served_front = fronting (λ i r. served size secret hint (over i) (sized_request r)) (λ r. hint (sized_request r)) asks

@@ -24,12 +24,12 @@ abbrev pub young_item : Option Msg → Option Item
 young_item None = None
 young_item (Some m) = Some (item_of m)
 
--- the message out of the cache is given, where there is one, and else an item
+-- the message out of the cache is given, if there is one, and else an item
 abbrev pub young_or : Option Msg → Item → Item
 young_or None i = i
 young_or (Some m) i = item_of m
 
--- what is answered to a request where this item is given for it, and the message that is asked for it, if one is
+-- what is answered to a request if this item is given for it, and the message that is asked for it, if one is
 abbrev pub cached_over : Settings → Cached → Item → Req (Unit {0}) → ℕ → Answer
 cached_over s c i r = layered s (young_or (looked_up c r).cached i) r
 
@@ -40,7 +40,7 @@ unless_young (Some m) message = None
 abbrev pub cached_asks : Settings → Cached → Req (Unit {0}) → Option (List ℕ)
 cached_asks s c r = unless_young (looked_up c r).cached (asked_message s r)
 
--- the cache behind a request that was taken: it is asked for one that is passed on and can be sent
+-- the cache after a request that was taken: it is asked for one that is passed on and can be sent
 abbrev pub taken_by : Option (List ℕ) → Cached → Cached → Cached
 taken_by None c behind = c
 taken_by (Some message) c behind = behind
@@ -60,6 +60,6 @@ request_at o secs = record {
   metadata = tt;
 }
 
--- and behind an upstream's answer to it, of which the reply is kept where it can be
+-- a cache after an upstream's answer to a request, of which the reply is kept if it can be
 abbrev pub cache_given : Cached → List ℕ → ℕ → Result (List ℕ) SendError → Cached
 cache_given c o secs r = (asked_cache c (request_at o secs) 1 (relay_answer o (Ready r))).behind

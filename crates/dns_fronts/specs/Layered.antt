@@ -1,4 +1,4 @@
--- The layers before upstreams: what is answered where an item is given for a request, and what an upstream is asked.
+-- The layers before upstreams: what is answered if an item is given for a request, and what an upstream is asked.
 use Rattle.std.specs.Prelude.{ℕ, List, Option, Some, None, length, nat_le, if◌then◌else◌, Result, Ok, Err}
 use Rattle.dns_name.specs.declared.error.ParseError.{ParseError}
 use Rattle.dns_base.specs.Wire.{wire}
@@ -27,11 +27,11 @@ abbrev pub read_sent : Result RequestState ParseError → Option (List ℕ)
 read_sent (Ok m) = message_sent m
 read_sent (Err e) = None
 
--- the message that is sent for octets that are a request, where they can be read
+-- the message that is sent for octets that are a request, if they can be read
 abbrev pub sendable : List ℕ → Option (List ℕ)
 sendable o = read_sent (request_of o)
 
--- what is given for a request: InternalError where nothing can be sent for it
+-- what is given for a request: InternalError if nothing can be sent for it
 abbrev pub given_where : Option (List ℕ) → Item → Item
 given_where None i = Err InternalError
 given_where (Some m) i = i
@@ -43,7 +43,7 @@ no_zones notice k = Ready (Err NotAuthForZone)
 abbrev pub no_verdict : NoSecondaries → ℕ → PolledVerdict
 no_verdict target k = Ready (Err NotAuthForZone)
 
--- what the layers answer to a request where this item is given for it
+-- what the layers answer to a request if this item is given for it
 abbrev pub layered : Settings → Item → Req (Unit {0}) → ℕ → Answer
 layered s i = replies s (λ q. once (given_where (sendable q.octets) i)) no_zones
 
@@ -51,7 +51,7 @@ layered s i = replies s (λ q. once (given_where (sendable q.octets) i)) no_zone
 abbrev pub asked_message : Settings → Req (Unit {0}) → Option (List ℕ)
 asked_message s r = if is_pass (gate s r) then sendable r.octets else None
 
--- the item that a turn gives, behind which there is none
+-- the item that a turn gives, after which there is none
 abbrev pub given_turn : TurnAnswer → Item
 given_turn Pending = Err InternalError
 given_turn (Ready r) = turn_item r

@@ -4,4 +4,4 @@ pub mod Required
 pub mod Layered
 pub mod Caching
 pub mod Passed
-pub mod Served
+pub mod ServerReplies

@@ -9,7 +9,7 @@ use Rattle.dns_fronts.specs.Caching.{item_of}
 use Rattle.dns_proxy.specs.declared.front.Taken.{Taken}
 use Rattle.dns_proxy.specs.declared.front.Taken.TheVariants as How
 
--- a message is asked for it where one can be sent, and else it is answered by InternalError
+-- a message is asked for it if one can be sent, and else it is answered by InternalError
 abbrev pub passed_to : WrapPost → Option (List ℕ) → Taken WrapPost
 passed_to post None = How.Own (Err InternalError)
 passed_to post (Some message) = How.Passed post message

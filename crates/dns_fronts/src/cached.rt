@@ -19,7 +19,7 @@ use dns_route::{SendError, turn_item};
 use dns_service::{OutOfMemory, Polled, Request, ServiceResult};
 use std::alloc::Global;
 
-/// The layers with a cache behind them: what they pass on is answered out of the cache if that has a young reply for it. The
+/// The layers with a cache after them: what they pass on is answered out of the cache if that has a young reply for it. The
 /// replies that are made of answers are kept.
 #[derive(Drop)]
 pub struct CachedFront {
@@ -42,7 +42,7 @@ impl CachedFront {
         self.cache.len()
     }
 
-    /// The item out of the cache for a request that the layers pass on, where there is one.
+    /// The item out of the cache for a request that the layers pass on, if there is one.
     fn young(
         &mut self,
         alloc: Global,
@@ -61,7 +61,7 @@ impl CachedFront {
         }
     }
 
-    /// How a request is taken that the layers pass on: out of the cache where that has a young reply for it.
+    /// How a request is taken that the layers pass on: out of the cache if that has a young reply for it.
     fn unless_young(
         &mut self,
         alloc: Global,

@@ -80,7 +80,7 @@ impl Front for LayeredFront {
     }
 }
 
-/// The item that a turn gives, behind which there is none.
+/// The item that a turn gives, after which there is none.
 pub(crate) fn given_turn(alloc: Global, turned: Turned) -> Result<ServiceResult, OutOfMemory>
     ensures { IfOk result (λ i. i ≡ given_turn turned) }
 {

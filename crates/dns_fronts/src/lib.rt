@@ -1,9 +1,9 @@
-//! What stands before the upstreams of a forwarding proxy: the layers, and a cache behind them. It does no input and
+//! What stands before the upstreams of a forwarding proxy: the layers, and a cache after them. It does no input and
 //! output.
 //!
 //! - `LayeredFront` is the layers of some settings. A NOTIFY is answered NOTAUTH, since a proxy is a secondary of no
 //!   zone. Clients of a `Network` that is required to have cookies are denied service over UDP without a good one.
-//! - `CachedFront` is the layers with a cache behind them. What they pass on is answered out of the cache if that has a young
+//! - `CachedFront` is the layers with a cache after them. What they pass on is answered out of the cache if that has a young
 //!   reply. The replies that are made of answers are kept.
 //! - `ServerFront` is another front, whose replies say what a server says of itself: at most 512 octets over UDP without EDNS. OPT
 //!   records have the server's own size and the request's DO. With a secret replies carry a server cookie.

@@ -10,7 +10,7 @@ use dns_service::{OutOfMemory, Request};
 use std::alloc::Global;
 
 /// The message that is sent on for a request: without its OPT record, or with one of our own that keeps the DO bit and client
-/// subnets. None where the request can't be read, or where the message would have more than 65,535 octets.
+/// subnets. None if the request can't be read, or if the message would have more than 65,535 octets.
 pub(crate) fn sendable(alloc: Global, request: &Request<()>) -> Result<Option<Message>, OutOfMemory>
     ensures { IfOk result (λ m. m ≡ sendable request.now.octets) }
 {

@@ -14,7 +14,7 @@ ghost use Rattle.dns_proxy.specs.declared.query_event.ClientTransport.TheVariant
 ghost use Rattle.dns_proxy.specs.Coming.{message_of, request_of};
 ghost use Rattle.dns_proxy.specs.Fronts.{fronting};
 ghost use Rattle.dns_proxy.specs.Proxied.{sent_over};
-ghost use Rattle.dns_fronts.specs.Served.{AreWithin, served, sized_request, taken_behind, udp_size};
+ghost use Rattle.dns_fronts.specs.ServerReplies.{AreWithin, served, sized_request, taken_behind, udp_size};
 
 use crate::cached::{CachedFront, own_by};
 use crate::layered::LayeredFront;
@@ -33,11 +33,11 @@ use std::alloc::Global;
 /// How many octets a message over UDP has at most without EDNS (RFC 1035, section 4.2.1).
 const CLASSIC_SIZE: u16 = 512;
 
-/// How many octets the server takes over UDP where the settings say nothing.
+/// How many octets the server takes over UDP if the settings say nothing.
 const UDP_SIZE: u16 = 1_232;
 
 /// Another front, whose replies say what a server says of itself. Over UDP a reply to a request without an OPT record has at most 512
-/// octets. OPT records state the server's own size and the request's DO. Where there is a secret, a request with a client cookie is
+/// octets. OPT records state the server's own size and the request's DO. If there is a secret, a request with a client cookie is
 /// answered with a server cookie.
 #[derive(Drop)]
 pub struct ServerFront<F> {
@@ -57,7 +57,7 @@ fn udp_size(settings: &Settings) -> u16
 }
 
 impl ServerFront<CachedFront> {
-    /// The layers of these settings and networks, with a cache behind them, for a server of the settings' size and secret.
+    /// The layers of these settings and networks, with a cache after them, for a server of the settings' size and secret.
     pub fn new(settings: Settings, required: Vec<Network>, cache: Cache) -> ServerFront<CachedFront>
         ensures front { result.front ≡ record { front = record { settings = settings; required = required }; cache = cache } }
         ensures size { result.size ≡ udp_size settings }
@@ -151,7 +151,7 @@ impl<F: Front> Front for ServerFront<F> {
     }
 }
 
-/// What a client is sent for a query over UDP has at most as many octets as the hint allows; that is 512 where the query has no OPT record
+/// What a client is sent for a query over UDP has at most as many octets as the hint allows; that is 512 if the query has no OPT record
 /// (RFC 1035, section 4.2.1).
 pub fn replies_fit()
     ensures fits { (f : ServerFront CachedFront) (dgram : Dgram) (c : ClientMessage) (i : Item) → c.transport ≡ Datagram

@@ -40,7 +40,7 @@ fn lasting(secret: &[u8; 16], now: Serial, address: IpAddr, cookie: Cookie) -> C
     cookie.create_response(now, address, secret)
 }
 
-/// The cookie of the replies to a request, where there is a secret and the request has a cookie that can be read.
+/// The cookie of the replies to a request, if there is a secret and the request has a cookie that can be read.
 pub(crate) fn cookie_for(secret: &Option<[u8; 16]>, request: &Request<()>) -> Option<Cookie>
     ensures { result ≡ cookie_for secret.now request.now }
 {

@@ -2,7 +2,7 @@
 
 ghost use Rattle.std.specs.Prelude.{◌≡◌, OnOk};
 ghost use Rattle.dns_service.specs.Transport.{hint_of, limit, limit_over};
-ghost use Rattle.dns_fronts.specs.Served.{and_cookie, behind, post_of, server_by};
+ghost use Rattle.dns_fronts.specs.ServerReplies.{and_cookie, behind, post_of, server_by};
 
 use dns_base::AdditionalBuilder;
 use dns_cookie::Cookie;
@@ -15,15 +15,15 @@ use std::alloc::Global;
 /// What the replies to a request say of the server.
 #[derive(Clone, Copy)]
 pub struct ServerPost {
-    /// The cookie that they carry, where there is one.
+    /// The cookie that they carry, if there is one.
     pub cookie: Option<CookiePost>,
     /// What their OPT records state.
     pub opt: OwnOpt,
-    /// How many octets a reply may take, where that is limited.
+    /// How many octets a reply may take, if that is limited.
     pub limit: Option<u16>,
 }
 
-/// A rule, and behind it what the replies say of the server.
+/// A rule, and after it what the replies say of the server.
 #[derive(Drop)]
 pub struct ServerRule<R> {
     pub inner: R,
@@ -65,7 +65,7 @@ impl<R: Rewrite> Rewrite for ServerRule<R> {
     }
 }
 
-/// Adds a cookie to a reply, where there is one.
+/// Adds a cookie to a reply, if there is one.
 fn put_cookie(
     alloc: Global,
     cookie: &Option<CookiePost>,

@@ -11,8 +11,8 @@ use Rattle.std.specs.declared.alloc.Global.{Global}
 use Rattle.dns_authority.specs.Authorities.{AuthorityState, and_zone}
 use Rattle.dns_authority.specs.declared.networks.Network.{Network}
 use Rattle.dns_config.specs.declared.prefix.Prefix.{Prefix}
-use Rattle.dns_generation.specs.declared.fault.ZoneFault.{ZoneFault}
-use Rattle.dns_generation.specs.declared.fault.ZoneFault.TheVariants.{Line, NotZone, OutOfMemory}
+use Rattle.dns_generation.specs.declared.fault.ZoneTextError.{ZoneTextError}
+use Rattle.dns_generation.specs.declared.fault.ZoneTextError.TheVariants.{Line, NotZone, OutOfMemory}
 use Rattle.dns_generation.specs.declared.generation.ZoneSummary.{ZoneSummary}
 
 abbrev pub network_of : Prefix → Network
@@ -23,7 +23,7 @@ abbrev pub IsWritten : List (List ℕ) → List ℕ → ZoneState → Type 0
 IsWritten apex text z = (z.apex ≡ apex) × (zone_file apex text ≡ Ok z.records) × (tree_error apex z.records ≡ None)
 
 -- why a zone file isn't served: the line that is refused, or why its records are no zone
-abbrev pub HasFault : List (List ℕ) → List ℕ → ZoneFault → Type 0
+abbrev pub HasFault : List (List ℕ) → List ℕ → ZoneTextError → Type 0
 HasFault apex text (Line line reason) = zone_file apex text ≡ Err (line, reason)
 HasFault apex text (NotZone error) =
     (records : List Record) × (zone_file apex text ≡ Ok records)
@@ -50,12 +50,12 @@ pub record GenerationState : Type 0 where
 abbrev pub summary_of : List Record → ZoneSummary
 summary_of records = record { timers = timers_among records; records = length records }
 
--- the networks that may transfer a zone: its own, or those of the authority where it has none
+-- the networks that may transfer a zone: its own, or those of the authority if it has none
 abbrev pub networks_or : Option (Vec Network Global) → List Network → List Network
 networks_or None all = all
 networks_or (Some own) all = own.items
 
--- a zone that these networks may transfer is behind the others
+-- a zone that these networks may transfer is after the others
 abbrev pub with_zone : List Network → ZoneState → GenerationState → GenerationState
 with_zone allowed z g = record g {
   authority = and_zone allowed z g.authority;
@@ -63,14 +63,14 @@ with_zone allowed z g = record g {
   summaries = g.summaries ++ summary_of z.records ∷ [];
 }
 
--- a zone without data is behind the others
+-- a zone without data is after the others
 abbrev pub with_withheld : List (List ℕ) → GenerationState → GenerationState
 with_withheld apex g = record g {
   withheld = g.withheld ++ apex ∷ [];
   summaries = g.summaries ++ (record { timers = None; records = 0 }) ∷ [];
 }
 
--- the zone that a file writes, which these networks may transfer, is behind the others
+-- the zone that a file writes, which these networks may transfer, is after the others
 pub record AddsFile (apex : List (List ℕ)) (text : List ℕ) (allowed : List Network) (a b : GenerationState) : Type 0 where
   pub zone : ZoneState
   pub written : IsWritten apex text zone

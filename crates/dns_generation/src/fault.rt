@@ -9,7 +9,7 @@ use std::alloc::AllocError;
 
 /// Why the text of a zone file isn't served.
 #[derive(Clone, Copy, Debug)]
-pub enum ZoneFault {
+pub enum ZoneTextError {
     /// A line, counted from 1, and why it is refused.
     Line { line: u64, reason: EntryReason },
     /// Its records are no zone.
@@ -17,22 +17,22 @@ pub enum ZoneFault {
     OutOfMemory,
 }
 
-impl From<OutOfMemory> for ZoneFault {
-    ghost use Rattle.dns_generation.specs.declared.fault.ZoneFault.TheVariants.{OutOfMemory as NoMemory};
+impl From<OutOfMemory> for ZoneTextError {
+    ghost use Rattle.dns_generation.specs.declared.fault.ZoneTextError.TheVariants.{OutOfMemory as NoMemory};
 
     ghost from_gives = { λ _ e. e ≡ NoMemory };
 
-    fn from(_error: OutOfMemory) -> ZoneFault {
-        ZoneFault::OutOfMemory
+    fn from(_error: OutOfMemory) -> ZoneTextError {
+        ZoneTextError::OutOfMemory
     }
 }
 
-impl From<AllocError> for ZoneFault {
-    ghost use Rattle.dns_generation.specs.declared.fault.ZoneFault.TheVariants.{OutOfMemory as NoMemory};
+impl From<AllocError> for ZoneTextError {
+    ghost use Rattle.dns_generation.specs.declared.fault.ZoneTextError.TheVariants.{OutOfMemory as NoMemory};
 
     ghost from_gives = { λ _ e. e ≡ NoMemory };
 
-    fn from(_error: AllocError) -> ZoneFault {
-        ZoneFault::OutOfMemory
+    fn from(_error: AllocError) -> ZoneTextError {
+        ZoneTextError::OutOfMemory
     }
 }

@@ -5,7 +5,7 @@ ghost use Rattle.dns_authority.specs.Authorities.{and_zone, authority_answer};
 ghost use Rattle.dns_secondary_service.specs.Withheld.{withholding};
 ghost use Rattle.dns_generation.specs.Generations.{AddsFile, HasFault, networks_or, summary_of, timers_among, with_withheld, with_zone};
 
-use crate::fault::ZoneFault;
+use crate::fault::ZoneTextError;
 use crate::zones::zone_of;
 use dns_authority::{Authority, Network};
 use dns_message::Record;
@@ -20,7 +20,7 @@ use std::marker::Model;
 /// A zone in few words.
 #[derive(Clone, Copy)]
 pub struct ZoneSummary {
-    /// What its SOA record says of copies; nothing where the zone has no data.
+    /// What its SOA record says of copies; nothing if the zone has no data.
     pub timers: Option<SoaTimers>,
     /// How many records it has.
     pub records: usize,
@@ -98,7 +98,7 @@ fn push_both(
     summaries.push_reserved(summary);
 }
 
-/// Adds a zone to an authority, which may be transferred to its own networks, or to those of the authority where it has none.
+/// Adds a zone to an authority, which may be transferred to its own networks, or to those of the authority if it has none.
 fn add_zone(
     authority: &mut Authority,
     alloc: Global,
@@ -132,7 +132,7 @@ impl Generation {
         }
     }
 
-    /// Puts a zone with a summary behind the others. A refused call leaves the generation.
+    /// Puts a zone with a summary after the others. A refused call leaves the generation.
     fn put(
         &mut self,
         alloc: Global,
@@ -152,14 +152,14 @@ impl Generation {
         Ok(())
     }
 
-    /// Reads a zone of the text of its file, judges it, and puts it behind the others. A refused call leaves the generation.
+    /// Reads a zone of the text of its file, judges it, and puts it after the others. A refused call leaves the generation.
     fn add_file(
         &mut self,
         alloc: Global,
         apex: &Name,
         text: &[u8],
         own: Option<Vec<Network>>,
-    ) -> Result<(), ZoneFault>
+    ) -> Result<(), ZoneTextError>
         ensures ok { OnOk result (AddsFile apex.now text.now (networks_or own self.old.authority.allowed) self.old self.new) }
         ensures fault { IfErr result (HasFault apex.now text.now) }
         ensures err { OnErr result (self.new ≡ self.old) }
@@ -171,9 +171,9 @@ impl Generation {
         Ok(())
     }
 
-    /// Reads a zone of the text of its file, judges it, and puts it behind the others. It may be transferred to the networks of the
+    /// Reads a zone of the text of its file, judges it, and puts it after the others. It may be transferred to the networks of the
     /// generation. A refused call leaves the generation.
-    pub fn add(&mut self, alloc: Global, apex: &Name, text: &[u8]) -> Result<(), ZoneFault>
+    pub fn add(&mut self, alloc: Global, apex: &Name, text: &[u8]) -> Result<(), ZoneTextError>
         ensures ok { OnOk result (AddsFile apex.now text.now self.old.authority.allowed self.old self.new) }
         ensures fault { IfErr result (HasFault apex.now text.now) }
         ensures err { OnErr result (self.new ≡ self.old) }
@@ -181,7 +181,7 @@ impl Generation {
         self.add_file(alloc, apex, text, None)
     }
 
-    /// Reads a zone of the text of its file, judges it, and puts it behind the others. It may be transferred to these networks. A
+    /// Reads a zone of the text of its file, judges it, and puts it after the others. It may be transferred to these networks. A
     /// refused call leaves the generation.
     pub fn add_for(
         &mut self,
@@ -189,7 +189,7 @@ impl Generation {
         apex: &Name,
         text: &[u8],
         allowed: Vec<Network>,
-    ) -> Result<(), ZoneFault>
+    ) -> Result<(), ZoneTextError>
         ensures ok { OnOk result (AddsFile apex.now text.now allowed.items self.old self.new) }
         ensures fault { IfErr result (HasFault apex.now text.now) }
         ensures err { OnErr result (self.new ≡ self.old) }
@@ -197,7 +197,7 @@ impl Generation {
         self.add_file(alloc, apex, text, Some(allowed))
     }
 
-    /// Puts a zone without data behind the others: a query for its names is answered SERVFAIL. A refused call leaves the
+    /// Puts a zone without data after the others: a query for its names is answered SERVFAIL. A refused call leaves the
     /// generation.
     pub fn withhold(&mut self, alloc: Global, apex: &Name) -> Result<(), OutOfMemory>
         ensures ok { OnOk result (self.new ≡ with_withheld apex.now self.old) }
@@ -213,7 +213,7 @@ impl Generation {
         Ok(())
     }
 
-    /// Each zone in few words, in the order in which they were put behind each other.
+    /// Each zone in few words, in the order in which they were put after each other.
     pub fn summaries(&self) -> &[ZoneSummary]
         ensures { result.now ≡ self.now.summaries }
     {

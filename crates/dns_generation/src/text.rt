@@ -1,6 +1,6 @@
 //! Why a line of a zone file is refused, in words.
 
-use crate::fault::ZoneFault;
+use crate::fault::ZoneTextError;
 use dns_zone_file::EntryReason;
 use dns_zone_tree::TreeError;
 use std::error::Error;
@@ -55,7 +55,9 @@ fn write_cause<W: fmt::Write>(error: TreeError, f: &mut fmt::Formatter<W>) -> fm
             f,
             "no zone: record {place} takes more than 65,000 octets"
         ),
-        TreeError::Large => f.write_str("no zone: too many records, or owners that are too long"),
+        TreeError::Large => f.write_str(
+            "no zone: too many records, or too many octets in the names of their owners",
+        ),
         TreeError::Cname(place) => {
             write!(f, "no zone: record {place} is a CNAME beside other records")
         }
@@ -64,17 +66,17 @@ fn write_cause<W: fmt::Write>(error: TreeError, f: &mut fmt::Formatter<W>) -> fm
 }
 
 /// The line and its reason; or what the records are no zone for.
-impl fmt::Display for ZoneFault {
+impl fmt::Display for ZoneTextError {
     fn fmt<W: fmt::Write>(&self, f: &mut fmt::Formatter<W>) -> fmt::Result {
         match self {
-            ZoneFault::Line { line, reason } => {
+            ZoneTextError::Line { line, reason } => {
                 let said = reason_text(*reason);
                 write!(f, "line {line}: {said}")
             }
-            ZoneFault::NotZone(error) => write_cause(*error, f),
-            ZoneFault::OutOfMemory => f.write_str("out of memory"),
+            ZoneTextError::NotZone(error) => write_cause(*error, f),
+            ZoneTextError::OutOfMemory => f.write_str("out of memory"),
         }
     }
 }
 
-impl Error for ZoneFault {}
+impl Error for ZoneTextError {}

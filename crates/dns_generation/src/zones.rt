@@ -4,7 +4,7 @@ ghost use Rattle.std.specs.Prelude.{◌≡◌, IfOk, IfErr, Ok};
 ghost use Rattle.dns_zone_file.specs.ZoneFile.{AreShaped, zone_file};
 ghost use Rattle.dns_generation.specs.Generations.{HasFault, IsWritten};
 
-use crate::fault::ZoneFault;
+use crate::fault::ZoneTextError;
 use dns_message::Record;
 use dns_name::Name;
 use dns_zone_file::{ZoneFileError, read_zone};
@@ -12,20 +12,20 @@ use dns_zone_tree::ZoneTree;
 use std::alloc::Global;
 
 /// The records that the text of a zone file writes.
-fn read_records(alloc: Global, apex: &Name, text: &[u8]) -> Result<Vec<Record>, ZoneFault>
+fn read_records(alloc: Global, apex: &Name, text: &[u8]) -> Result<Vec<Record>, ZoneTextError>
     ensures ok { IfOk result (λ records. zone_file apex.now text.now ≡ Ok records.items) }
     ensures fault { IfErr result (HasFault apex.now text.now) }
     ensures shaped { IfOk result (λ records. AreShaped records.items) }
 {
     match read_zone(alloc, apex, text) {
         Ok(records) => Ok(records),
-        Err(ZoneFileError::Refused { line, reason }) => Err(ZoneFault::Line { line, reason }),
-        Err(ZoneFileError::OutOfMemory) => Err(ZoneFault::OutOfMemory),
+        Err(ZoneFileError::Refused { line, reason }) => Err(ZoneTextError::Line { line, reason }),
+        Err(ZoneFileError::OutOfMemory) => Err(ZoneTextError::OutOfMemory),
     }
 }
 
 /// The zone that the text of a zone file writes.
-pub(crate) fn zone_of(alloc: Global, apex: &Name, text: &[u8]) -> Result<ZoneTree, ZoneFault>
+pub(crate) fn zone_of(alloc: Global, apex: &Name, text: &[u8]) -> Result<ZoneTree, ZoneTextError>
     ensures ok { IfOk result (IsWritten apex.now text.now) }
     ensures fault { IfErr result (HasFault apex.now text.now) }
 {
@@ -33,6 +33,6 @@ pub(crate) fn zone_of(alloc: Global, apex: &Name, text: &[u8]) -> Result<ZoneTre
     let apex = apex.try_clone(alloc)?;
     match ZoneTree::new(alloc, apex, records) {
         Ok(zone) => Ok(zone),
-        Err(error) => Err(ZoneFault::NotZone(error)),
+        Err(error) => Err(ZoneTextError::NotZone(error)),
     }
 }

@@ -114,7 +114,7 @@ fn masked_text(algorithm: Algorithm, key: &[u8], pad: u8) -> Hasher
     hasher
 }
 
-/// A key with zeros behind it, each octet masked.
+/// A key with zeros after it, each octet masked.
 fn masked_block(key: &[u8], pad: u8) -> [u8; 128]
     requires { length key.now ≤ 128 }
     ensures { result ≡ masked pad key.now ++ replicate (128 - length key.now) pad }

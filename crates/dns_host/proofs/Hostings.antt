@@ -96,7 +96,7 @@ both_served answers end count accepts_end dgrams_end risen send_failed look na m
       shut = record { look = look; called = shut };
     })
 
--- a fault is answered exactly where something failed, unless memory was wanting
+-- a fault is answered exactly if something failed, unless memory ran out
 any_rose : (end : Bool → HostEnd) (risen send_failed : Bool) (f f' p p' r r' s s' : ℕ) → end true ≡ HostFault → end false ≡ Done → RoseWhere risen f f' p p' → r' ≡ r → RoseIf send_failed s s' →
     HostRose (end (risen || send_failed)) f f' p p' r r' s s'
 any_rose end true send_failed f f' p p' r r' s s' fault done rose same sends = rw fault (inl rose)

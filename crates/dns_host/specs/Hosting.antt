@@ -34,7 +34,7 @@ pub record HalvesClosed (first second k' : Known) : Type 0 where
   pub join : Joined first second joined
   pub shut : ShutDown joined k'
 
--- datagrams that end by a fault or for want of memory shut the book down, and so do accepts that end for want of memory
+-- datagrams that end by a fault or because memory ran out shut the book down, and so do accepts that end because memory ran out
 abbrev pub DgramsShut : DgramEnd → Known → Known → Type 0
 DgramsShut DgramShutdown k k' = k' ≡ k
 DgramsShut DgramCounted k k' = k' ≡ k
@@ -54,8 +54,8 @@ host_end DgramFault accepts risen = HostFault
 host_end datagrams accepts true = HostFault
 host_end datagrams accepts false = Done
 
--- The host's count of faults is that of failed accepts, refused starts, failed receives and failed sends. It rose where a host ends by a
--- fault, and it is the same where it is done.
+-- The host's count of faults is that of failed accepts, refused starts, failed receives and failed sends. It rose if a host ends by a
+-- fault, and it is the same if it is done.
 abbrev pub HostRose : HostEnd → ℕ → ℕ → ℕ → ℕ → ℕ → ℕ → ℕ → ℕ → Type 0
 HostRose HostFault f f' p p' r r' s s' = (Rose f f' ⊎ Rose p p') ⊎ (Rose r r' ⊎ Rose s s')
 HostRose Done f f' p p' r r' s s' = (f' ≡ f) × (p' ≡ p) × (r' ≡ r) × (s' ≡ s)

@@ -33,7 +33,7 @@ pub struct Host<A, D, C, P, J> {
 /// How a host was served.
 #[derive(Clone, Copy, Debug, PartialEq, Eq)]
 pub enum HostEnd {
-    /// So many connections and datagrams were taken as were to be, or the book was shut down.
+    /// As many connections and datagrams were taken as were to be, or the book was shut down.
     Done,
     /// A call found no memory.
     OutOfMemory,

@@ -31,7 +31,7 @@ pub struct AcceptContext<'a, R, C, W> {
     pub clock: &'a C,
 }
 
-/// Shuts the book down where datagrams ended by a fault or for want of memory.
+/// Shuts the book down if datagrams ended by a fault or because memory ran out.
 fn shut_after_datagrams<R: Wait>(rt: &R, book: &Book, seat: &mut BookSeat, end: DgramEnd)
     requires { seat.old.book ≡ book.now }
     ensures shut { DgramsShut end seat.old.known seat.new.known }
@@ -45,7 +45,7 @@ fn shut_after_datagrams<R: Wait>(rt: &R, book: &Book, seat: &mut BookSeat, end: 
     }
 }
 
-/// Shuts the book down where accepts ended for want of memory.
+/// Shuts the book down if accepts ended because memory ran out.
 fn shut_after_accepts<R: Wait>(rt: &R, book: &Book, seat: &mut BookSeat, end: AcceptEnd)
     requires { seat.old.book ≡ book.now }
     ensures shut { AcceptsShut end seat.old.known seat.new.known }
@@ -60,7 +60,7 @@ fn shut_after_accepts<R: Wait>(rt: &R, book: &Book, seat: &mut BookSeat, end: Ac
 }
 
 impl<R: Wait, W: SharedService> ServeContext<'_, R, W> {
-    /// Serves datagrams from the seat that stands in its place. Where they end by a fault or for want of memory, the book is
+    /// Serves datagrams from the seat that stands in its place. If they end by a fault or because memory ran out, the book is
     /// shut down. Whether a send failed is given too.
     pub fn datagrams_beside<D: AsyncDgramSock, C: Clock, J: Recorder>(
         &self,
@@ -104,7 +104,7 @@ where
     W::Future: Send,
     W::Stream: Send,
 {
-    /// Accepts connections from the seat that stands in its place. Where that ends for want of memory, the book is shut down.
+    /// Accepts connections from the seat that stands in its place. If that ends because memory ran out, the book is shut down.
     /// Whether an accept failed or a start was refused is given too.
     pub fn accepts_beside<A: AsyncAccept, P: Spawner<ConnectionWork<A::Link, C, Silent, W>>>(
         &self,

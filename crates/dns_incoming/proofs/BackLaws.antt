@@ -15,7 +15,7 @@ use Rattle.dns_transfer.proofs.TransferLaws.{bunched_joined}
 use Rattle.dns_zone.specs.Owned.{HasTypedData, ZoneState, is_of}
 use Rattle.dns_incoming.specs.Incoming.{IncomingState, added_to, ended_with, faulted, is_again, is_apex_soa, limited_to, opened_with, record_kept, taken_behind, taken_by, taken_message, taken_more, taken_record}
 use Rattle.dns_incoming.specs.IncomingLaws.{CanBeWritten, IsAnswer, SentZonesComeBack, all_taken, cut_taken, incoming, messages_taken, reply_octets}
-use Rattle.dns_incoming.specs.declared.status.TransferFault.TheVariants.{NoSoa, OtherSoa, Outside, TooMany}
+use Rattle.dns_incoming.specs.declared.status.TransferDefect.TheVariants.{NoSoa, OtherSoa, Outside, TooMany}
 use Rattle.dns_incoming.specs.declared.status.TransferStatus.{TransferStatus}
 use Rattle.dns_incoming.specs.declared.status.TransferStatus.TheVariants.{More, Done, Refused}
 use Rattle.dns_incoming.proofs.CutLaws.{cuts_are_the_same}

@@ -16,8 +16,8 @@ use Rattle.dns_message.specs.declared.record.Record.{Record}
 use Rattle.dns_zone.specs.Owned.{HasTypedData}
 use Rattle.dns_incoming.specs.Incoming.{IncomingState, code_fault, header_fault, readable_record, taken_items, taken_message, taken_read, taken_section, taken_unless}
 use Rattle.dns_incoming.specs.IncomingLaws.{IsAnswer, MessagesAreTaken, all_taken}
-use Rattle.dns_incoming.specs.declared.status.TransferFault.{TransferFault}
-use Rattle.dns_incoming.specs.declared.status.TransferFault.TheVariants.{Code, Identifier}
+use Rattle.dns_incoming.specs.declared.status.TransferDefect.{TransferDefect}
+use Rattle.dns_incoming.specs.declared.status.TransferDefect.TheVariants.{Code, Identifier}
 
 eq_true : (a b : ℕ) → a ≡ b → nat_eq a b ≡ true
 eq_true a b h = grind (arith, nat_tests)
@@ -53,5 +53,5 @@ section_back rs xs (Ok items) s i t h = items_back rs items s t (subst (λ (l : 
 pub message_taken : (s : IncomingState) (m : Msg) (rs : List Record) → IsAnswer s m rs → message_of (wire m) ≡ m → ReadsBack m.answers (reached (questions_of (wire m)).1 (standing_answers (wire m))) → taken_message s (wire m) ≡ all_taken s rs
 message_taken s m rs a e h =
     let k = headed m (wire m) e in
-    ap (λ (f : Option TransferFault). taken_unless f s (wire m)) (ap (header_fault s.id) k ∙ no_fault s.id m.header a.id a.response a.code)
+    ap (λ (f : Option TransferDefect). taken_unless f s (wire m)) (ap (header_fault s.id) k ∙ no_fault s.id m.header a.id a.response a.code)
     ∙ section_back rs m.answers (reached (questions_of (wire m)).1 (standing_answers (wire m))) s a.answers a.read h

@@ -11,7 +11,7 @@ use Rattle.dns_transfer.specs.Transfers.{is_no_soa, other_records, soa_records}
 use Rattle.dns_zone.specs.Owned.{ZoneState, is_of}
 use Rattle.dns_incoming.specs.Incoming.{IncomingState, added_to, ended_with, faulted, limited_to, record_kept, taken_record}
 use Rattle.dns_incoming.specs.IncomingLaws.{IsAtOrBelow, ZonesComeBack, all_taken, incoming}
-use Rattle.dns_incoming.specs.declared.status.TransferFault.TheVariants.{NoSoa, OtherSoa, Outside, TooMany}
+use Rattle.dns_incoming.specs.declared.status.TransferDefect.TheVariants.{NoSoa, OtherSoa, Outside, TooMany}
 use Rattle.dns_incoming.specs.declared.status.TransferStatus.TheVariants.{More, Done}
 use Rattle.dns_incoming.proofs.CutLaws.{taken_then}
 
@@ -49,7 +49,7 @@ both_true : (a b : Bool) → a ≡ true → b ≡ true → (a && b) ≡ true
 both_true a b h g = rw (h, g) refl
 
 module _ (id most : ℕ) (apex : List (List ℕ)) (soa : Record) where
-  -- the SOA record came, and these behind it
+  -- the SOA record came, and these after it
   abbrev at : List Record → IncomingState
   at ps = record (incoming id apex most) { records = soa ∷ ps }
 

@@ -12,8 +12,8 @@ use Rattle.dns_message.specs.declared.header.Header.{Header}
 use Rattle.dns_message.specs.declared.record.Record.{Record}
 use Rattle.dns_route.specs.Routes.{ends_name}
 use Rattle.dns_zone.specs.Owned.{is_of}
-use Rattle.dns_incoming.specs.declared.status.TransferFault.{TransferFault}
-use Rattle.dns_incoming.specs.declared.status.TransferFault.TheVariants.{Identifier, Code, Unreadable, NoSoa, OtherSoa, Behind, Outside, TooMany}
+use Rattle.dns_incoming.specs.declared.status.TransferDefect.{TransferDefect}
+use Rattle.dns_incoming.specs.declared.status.TransferDefect.TheVariants.{Identifier, Code, Unreadable, NoSoa, OtherSoa, Behind, Outside, TooMany}
 use Rattle.dns_incoming.specs.declared.status.TransferStatus.{TransferStatus}
 use Rattle.dns_incoming.specs.declared.status.TransferStatus.TheVariants.{More, Done, Refused}
 
@@ -26,12 +26,12 @@ pub record IncomingState : Type 0 where
   pub status : TransferStatus
 
 -- the first fault stays
-abbrev pub fault_kept : TransferStatus → TransferFault → TransferStatus
+abbrev pub fault_kept : TransferStatus → TransferDefect → TransferStatus
 fault_kept More f = Refused f
 fault_kept Done f = Refused f
 fault_kept (Refused first) f = Refused first
 
-abbrev pub faulted : IncomingState → TransferFault → IncomingState
+abbrev pub faulted : IncomingState → TransferDefect → IncomingState
 faulted s f = record s { status = fault_kept s.status f }
 
 -- ---- records
@@ -46,7 +46,7 @@ is_apex_soa apex r = is_of 6 r && same_name r.owner apex
 abbrev pub opened_with : IncomingState → Record → IncomingState
 opened_with s r = if is_apex_soa s.apex r then record_kept s r else faulted s NoSoa
 
--- the same record again, its TTL aside, ends the transfer
+-- the first record once more, its TTL aside, ends the transfer
 abbrev pub is_again : Option Record → Record → Bool
 is_again None r = false
 is_again (Some first) r = same_record first r
@@ -67,7 +67,7 @@ taken_behind s r = if is_of 6 r then ended_with s r else added_to s r
 abbrev pub taken_more : IncomingState → Record → IncomingState
 taken_more s r = if is_some (slice_get s.records 0) then taken_behind s r else opened_with s r
 
--- no record comes behind the last one
+-- no record comes after the last one
 abbrev pub taken_by : TransferStatus → IncomingState → Record → IncomingState
 taken_by More s r = taken_more s r
 taken_by Done s r = faulted s Behind
@@ -78,7 +78,7 @@ taken_record s r = taken_by s.status s r
 
 -- ---- messages
 
--- the record that an iterator over a section gives, where it and its data are readable
+-- the record that an iterator over a section gives, if it and its data are readable
 abbrev pub readable_record : Result Record ParseError → Option Record
 readable_record (Ok r) = Some r
 readable_record (Err e) = None
@@ -100,13 +100,13 @@ taken_section s (Ok items) = taken_items s items
 taken_section s (Err e) = faulted s Unreadable
 
 -- a message is a response with the identifier that was asked with, and its response code is NOERROR (section 2.2.1)
-abbrev pub code_fault : Header → Option TransferFault
+abbrev pub code_fault : Header → Option TransferDefect
 code_fault h = if nat_eq h.rcode 0 then None else Some Code
 
-abbrev pub header_fault : ℕ → Header → Option TransferFault
+abbrev pub header_fault : ℕ → Header → Option TransferDefect
 header_fault id h = if nat_eq h.id id && h.qr then code_fault h else Some Identifier
 
-abbrev pub taken_unless : Option TransferFault → IncomingState → List ℕ → IncomingState
+abbrev pub taken_unless : Option TransferDefect → IncomingState → List ℕ → IncomingState
 taken_unless None s o = taken_section s (reached (questions_of o).1 (standing_answers o))
 taken_unless (Some f) s o = faulted s f
 

@@ -33,7 +33,7 @@ incoming id apex most = record { id = id; apex = apex; most = most; records = []
 abbrev pub IsAtOrBelow : List (List ℕ) → Record → Type 0
 IsAtOrBelow apex r = ends_name r.owner apex ≡ true
 
--- a zone of no more than so many records: one SOA record at the apex, and none outside
+-- a zone of no more than that many records: one SOA record at the apex, and none outside
 pub record IsSent (z : ZoneState) (soa : Record) (most : ℕ) : Type 0 where
   pub one : soa_records z ≡ soa ∷ []
   pub apex : same_name soa.owner z.apex ≡ true

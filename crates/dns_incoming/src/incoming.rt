@@ -12,7 +12,7 @@ ghost use Rattle.dns_incoming.specs.Incoming.{added_to, opened_with, code_fault,
 ghost use Rattle.dns_incoming.specs.IncomingLaws.{incoming};
 ghost use Rattle.dns_incoming.specs.declared.status.TransferStatus.{TransferStatus};
 
-use crate::status::{TransferFault, TransferStatus};
+use crate::status::{TransferDefect, TransferStatus};
 use dns_base::{
     Header, Message, Name, OutOfMemory, ParseError, Rcode, Record, RecordIter, RecordRef, Rtype,
 };
@@ -43,7 +43,7 @@ impl Model for IncomingTransfer {
 }
 
 impl IncomingTransfer {
-    /// The transfer that was asked for with an identifier, of the zone that begins at an apex and has at most so many records.
+    /// The transfer that was asked for with an identifier, of the zone that begins at an apex and has at most that many records.
     pub fn new(alloc: Global, id: u16, apex: Name, most: usize) -> IncomingTransfer
         ensures { result ≡ incoming id apex most }
     {
@@ -86,7 +86,7 @@ impl IncomingTransfer {
     }
 
     /// Why the header of a message isn't that of an answer.
-    fn fault_of(&self, message: &Message) -> Option<TransferFault>
+    fn fault_of(&self, message: &Message) -> Option<TransferDefect>
         ensures { result ≡ header_fault self.now.id (header_of message.now) }
     {
         header_fault(self.id, message.header())
@@ -99,7 +99,7 @@ impl IncomingTransfer {
         match message.answer() {
             Ok(items) => self.take_items(alloc, items),
             Err(_) => {
-                self.fail(TransferFault::Unreadable);
+                self.fail(TransferDefect::Unreadable);
                 Ok(())
             }
         }
@@ -127,7 +127,7 @@ impl IncomingTransfer {
         match item {
             Ok(standing) => self.take_standing(alloc, &standing),
             Err(_) => {
-                self.fail(TransferFault::Unreadable);
+                self.fail(TransferDefect::Unreadable);
                 Ok(())
             }
         }
@@ -141,7 +141,7 @@ impl IncomingTransfer {
             Ok(added) => self.take_record(added),
             Err(ParseError::OutOfMemory) => Err(OutOfMemory),
             Err(_) => {
-                self.fail(TransferFault::Unreadable);
+                self.fail(TransferDefect::Unreadable);
                 Ok(())
             }
         }
@@ -155,7 +155,7 @@ impl IncomingTransfer {
         match self.status {
             TransferStatus::More => self.take_more(added),
             TransferStatus::Done => {
-                self.fail(TransferFault::Behind);
+                self.fail(TransferDefect::Behind);
                 Ok(())
             }
             TransferStatus::Refused(_) => Ok(()),
@@ -173,7 +173,7 @@ impl IncomingTransfer {
         self.begin(added)
     }
 
-    /// Takes a record behind the first one.
+    /// Takes a record after the first one.
     fn take_behind(&mut self, added: Record) -> Result<(), OutOfMemory>
         requires { IsLawful added.rdata }
         ensures { OnOk result (self.new ≡ taken_behind self.old added) }
@@ -193,11 +193,11 @@ impl IncomingTransfer {
         if self.is_apex_soa(&added) {
             return self.keep(added);
         }
-        self.fail(TransferFault::NoSoa);
+        self.fail(TransferDefect::NoSoa);
         Ok(())
     }
 
-    /// Takes an SOA record behind the first one.
+    /// Takes an SOA record after the first one.
     fn end(&mut self, added: &Record)
         ensures { self.new ≡ ended_with self.old added.now }
     {
@@ -205,7 +205,7 @@ impl IncomingTransfer {
             self.finish();
             return;
         }
-        self.fail(TransferFault::OtherSoa);
+        self.fail(TransferDefect::OtherSoa);
     }
 
     /// All records came.
@@ -223,7 +223,7 @@ impl IncomingTransfer {
         if self.is_within(&added) {
             return self.add_limited(added);
         }
-        self.fail(TransferFault::Outside);
+        self.fail(TransferDefect::Outside);
         Ok(())
     }
 
@@ -235,7 +235,7 @@ impl IncomingTransfer {
         if self.has_room() {
             return self.keep(added);
         }
-        self.fail(TransferFault::TooMany);
+        self.fail(TransferDefect::TooMany);
         Ok(())
     }
 
@@ -249,7 +249,7 @@ impl IncomingTransfer {
     }
 
     /// Refuses what came, unless it is refused already.
-    fn fail(&mut self, fault: TransferFault)
+    fn fail(&mut self, fault: TransferDefect)
         ensures { self.new ≡ faulted self.old fault }
     {
         self.status = fault_kept(self.status, fault);
@@ -299,7 +299,7 @@ impl IncomingTransfer {
 }
 
 /// How far a transfer is with a fault: the first one stays.
-fn fault_kept(status: TransferStatus, fault: TransferFault) -> TransferStatus
+fn fault_kept(status: TransferStatus, fault: TransferDefect) -> TransferStatus
     ensures { result ≡ fault_kept status fault }
 {
     match status {
@@ -317,13 +317,13 @@ fn is_soa(added: &Record) -> bool
 }
 
 /// Why a header isn't that of an answer to the query with an identifier.
-fn header_fault(id: u16, header: Header) -> Option<TransferFault>
+fn header_fault(id: u16, header: Header) -> Option<TransferDefect>
     ensures { result ≡ header_fault id header }
 {
     if is_answer(id, &header) {
         return code_fault(&header);
     }
-    Some(TransferFault::Identifier)
+    Some(TransferDefect::Identifier)
 }
 
 /// Whether a header is that of a response with an identifier.
@@ -334,11 +334,11 @@ fn is_answer(id: u16, header: &Header) -> bool
 }
 
 /// Why the response code of a header isn't that of an answer.
-fn code_fault(header: &Header) -> Option<TransferFault>
+fn code_fault(header: &Header) -> Option<TransferDefect>
     ensures { result ≡ code_fault header.now }
 {
     if header.rcode == Rcode::NOERROR {
         return None;
     }
-    Some(TransferFault::Code)
+    Some(TransferDefect::Code)
 }

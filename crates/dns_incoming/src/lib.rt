@@ -4,7 +4,7 @@
 //!   stated number of records.
 //! - `take` takes a message of the connection. `status` says how far the transfer is (`TransferStatus`), and
 //!   `into_records` gives the records.
-//! - `TransferFault` says why what came is no transfer of a zone.
+//! - `TransferDefect` says why what came is no transfer of a zone.
 //!
 //! Whoever asks for the transfer opens the connection, sends the query and hands over what comes.
 //!
@@ -33,4 +33,4 @@ mod status;
 
 pub use incoming::IncomingTransfer;
 pub use laws::{cuts_are_the_same, messages_are_taken, sent_zones_come_back, zones_come_back};
-pub use status::{TransferFault, TransferStatus};
+pub use status::{TransferDefect, TransferStatus};

@@ -8,12 +8,12 @@ pub enum TransferStatus {
     /// All records came.
     Done,
     /// What came is no transfer of the zone.
-    Refused(TransferFault),
+    Refused(TransferDefect),
 }
 
 /// Why what came is no transfer of a zone.
 #[derive(Clone, Copy, Debug, PartialEq, Eq)]
-pub enum TransferFault {
+pub enum TransferDefect {
     /// A message is no response, or has another identifier than the query.
     Identifier,
     /// A message has another response code than NOERROR.
@@ -24,7 +24,7 @@ pub enum TransferFault {
     NoSoa,
     /// An SOA record isn't the first one again.
     OtherSoa,
-    /// A record comes behind the SOA record that ends the transfer.
+    /// A record comes after the SOA record that ends the transfer.
     Behind,
     /// The owner of a record doesn't end with the apex.
     Outside,

@@ -5,6 +5,6 @@ use Rattle.std.specs.Prelude.{ℕ, ◌+◌, ◌-◌, ◌^◌, ◌≤◌, min}
 abbrev pub Rose : ℕ → ℕ → Type 0
 Rose before now = min (before + 1) (2 ^ 64 - 1) ≤ now
 
--- where the object tells now, it told before, and the fact holds
+-- if the object tells now, it told before, and the fact holds
 pub record Observed (now before fact : Type 0) : Type 0 where
   pub observed : now → before × fact

@@ -10,13 +10,13 @@ use Rattle.dns_io.specs.declared.sink.SinkWrite.TheVariants.{Took, Failed as Wri
 use Rattle.dns_io.specs.declared.sink.WriteFault.{WriteFault}
 use Rattle.dns_io.specs.declared.source.TheConstants.{LIMIT}
 
--- a read takes the front of what is left, and the buffer then holds it; End comes only where nothing is left
+-- a read takes the front of what is left, and the buffer then holds it; End comes only if nothing is left
 abbrev pub ReadMoves : SourceRead → List ℕ → List ℕ → List ℕ → Type 0
 ReadMoves (Got n) buf a b = a ≡ take n buf ++ b
 ReadMoves End buf a b = (a ≡ []) × (b ≡ [])
 ReadMoves Failed buf a b = b ≡ a
 
--- a read fits its buffer, and gives at least one octet where there is room for one
+-- a read fits its buffer, and gives at least one octet if there is room for one
 abbrev pub ReadBound : SourceRead → List ℕ → Type 0
 ReadBound (Got n) buf = (n ≤ length buf) × (1 ≤ length buf → 1 ≤ n)
 ReadBound End buf = Unit {0}
@@ -43,13 +43,13 @@ abbrev pub WriteCause : SinkWrite → ℕ → ℕ → Type 0
 WriteCause (Took n) a b = b ≡ a
 WriteCause WriteFailed a b = Rose a b
 
--- so many octets were read of a, and b is left
+-- that many octets were read of a, and b is left
 pub record ReadExactly (count : ℕ) (a b : List ℕ) : Type 0 where
   pub got : List ℕ
   pub front : a ≡ got ++ b
   pub count_is : length got ≡ count
 
--- at most so many octets were read of a, and b is left
+-- at most that many octets were read of a, and b is left
 pub record ReadAtMost (most : ℕ) (a b : List ℕ) : Type 0 where
   pub got : List ℕ
   pub front : a ≡ got ++ b
@@ -62,7 +62,7 @@ ReadTo items (Err TooLong) a b = ReadExactly (LIMIT + 1) a b
 ReadTo items (Err OutOfMemory) a b = ReadAtMost (LIMIT + 1) a b
 ReadTo items (Err Fault) a b = ReadAtMost LIMIT a b
 
--- the count of faults rises where reading a whole source answers Fault, and nowhere else
+-- the count of faults rises if reading a whole source answers Fault, and only then
 abbrev pub ReadAllCause : {V : Type 0} → Result V ReadError → ℕ → ℕ → Type 0
 ReadAllCause (Ok v) a b = b ≡ a
 ReadAllCause (Err Fault) a b = Rose a b
@@ -81,7 +81,7 @@ abbrev pub WroteAll : Result (Unit {0}) WriteFault → List ℕ → List ℕ →
 WroteAll (Ok u) piece a b = b ≡ a ++ piece
 WroteAll (Err e) piece a b = Cut piece a b
 
--- the count of faults rises where writing a whole piece answers its error, and nowhere else
+-- the count of faults rises if writing a whole piece answers its error, and only then
 abbrev pub WroteAllCause : Result (Unit {0}) WriteFault → ℕ → ℕ → Type 0
 WroteAllCause (Ok u) a b = b ≡ a
 WroteAllCause (Err e) a b = Rose a b

@@ -22,7 +22,7 @@ abbrev pub PermitMoves : Result Bool OutOfMemory → SocketAddr → List SocketA
 PermitMoves (Ok may) addr a b = b ≡ a ++ addr ∷ []
 PermitMoves (Err e) addr a b = b ≡ a
 
--- the count of faults rises where leave is refused, and nowhere else
+-- the count of faults rises if leave is refused, and only then
 abbrev pub PermitCause : Result Bool OutOfMemory → ℕ → ℕ → Type 0
 PermitCause (Ok true) a b = b ≡ a
 PermitCause (Ok false) a b = Rose a b

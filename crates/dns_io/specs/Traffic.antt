@@ -21,7 +21,7 @@ LinkReadMoves Again buf a b = b ≡ record a { empty_reads = a.empty_reads + 1 }
 LinkReadMoves End buf a b = b ≡ record a { ends = a.ends + 1 }
 LinkReadMoves Failed buf a b = b ≡ a
 
--- a read fits its buffer, and gives at least one octet where there is room for one
+-- a read fits its buffer, and gives at least one octet if there is room for one
 abbrev pub LinkReadBound : LinkRead → List ℕ → Type 0
 LinkReadBound (Got n) buf = (n ≤ length buf) × (1 ≤ length buf → 1 ≤ n)
 LinkReadBound Again buf = Unit {0}

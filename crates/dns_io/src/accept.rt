@@ -27,7 +27,7 @@ pub trait AsyncAccept {
     /// That who came is known. It is of accept objects in memory, and is not of sockets.
     ghost tells: { Self → Type 0 };
 
-    /// Who came so far, where the accept object tells.
+    /// Who came so far, if the accept object tells.
     ghost accept_traffic: { Self → AcceptTraffic };
 
     /// The number of failed accepts so far, up to 2^64 - 1.
@@ -40,7 +40,7 @@ pub trait AsyncAccept {
         ensures later { faults self.old ≤ faults self.new }
         ensures cause { AcceptCause result (faults self.old) (faults self.new) };
 
-    /// Waits until a connection came since an `Again`, but no longer than so many milliseconds. It may return sooner.
+    /// Waits until a connection came since an `Again`, but no longer than that many milliseconds. It may return sooner.
     fn wait<R: Wait>(&mut self, rt: &R, millis: u64)
         ensures moves { Observed (tells self.new) (tells self.old) (accept_traffic self.new ≡ accept_traffic self.old) }
         ensures same { faults self.new ≡ faults self.old };

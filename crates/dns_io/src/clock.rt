@@ -11,15 +11,15 @@ pub trait Clock: Sized {
     /// That the readings are known. They are of a clock in memory, and are not of the machine's.
     ghost tells: { Self → Type 0 };
 
-    /// The readings given so far, where the clock tells: milliseconds, and seconds.
+    /// The readings given so far, if the clock tells: milliseconds, and seconds.
     ghost readings: { Self → List (ℕ × ℕ) };
 
     /// One reading: the time in milliseconds and in whole seconds. It may be less than an earlier one.
     fn now(&mut self) -> (u64, u64)
         ensures { Observed (tells self.new) (tells self.old) (readings self.new ≡ readings self.old ++ result ∷ []) };
 
-    /// The reading that was given last, where the clock keeps it and hasn't been told since that it is old; else one of now. What
-    /// comes right behind an event may have its moment.
+    /// The reading that was given last, if the clock keeps it and hasn't been told since that it is old; else one of now. What
+    /// comes right after an event may have its moment.
     fn latest(&mut self) -> (u64, u64)
         ensures { Observed (tells self.new) (tells self.old) (readings self.new ≡ readings self.old ++ result ∷ []) }
     {

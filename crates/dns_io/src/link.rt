@@ -9,7 +9,7 @@ use std::sync::Wait;
 /// The answer of one read.
 #[derive(Clone, Copy, Debug, PartialEq, Eq)]
 pub enum LinkRead {
-    /// So many octets stand at the buffer's front.
+    /// That many octets stand at the buffer's front.
     Got(usize),
     /// No octet is there yet.
     Again,
@@ -22,7 +22,7 @@ pub enum LinkRead {
 /// The answer of one write.
 #[derive(Clone, Copy, Debug, PartialEq, Eq)]
 pub enum LinkWrite {
-    /// So many octets of the piece's front were taken.
+    /// That many octets of the piece's front were taken.
     Took(usize),
     /// There is no room yet.
     Again,
@@ -35,7 +35,7 @@ pub trait Link {
     /// That what went through is known. It is of links in memory, and is not of sockets.
     ghost tells: { Self → Type 0 };
 
-    /// What went through so far, where the link tells.
+    /// What went through so far, if the link tells.
     ghost traffic: { Self → Traffic };
 
     /// The number of failed reads and writes so far, up to 2^64 - 1.
@@ -57,7 +57,7 @@ pub trait Link {
         ensures later { faults self.old ≤ faults self.new }
         ensures cause { LinkWriteCause result (faults self.old) (faults self.new) };
 
-    /// Waits until octets came, or there is room again, since an `Again`, but no longer than so many milliseconds. It
+    /// Waits until octets came, or there is room again, since an `Again`, but no longer than that many milliseconds. It
     /// may return sooner.
     fn wait<R: Wait>(&mut self, rt: &R, millis: u64)
         ensures moves { Observed (tells self.new) (tells self.old) (traffic self.new ≡ traffic self.old) }

@@ -7,7 +7,7 @@ ghost use Rattle.dns_io.specs.Moves.{WriteMoves, WriteBound, WriteCause, WroteAl
 /// The answer of one write.
 #[derive(Clone, Copy, Debug, PartialEq, Eq)]
 pub enum SinkWrite {
-    /// So many octets of the piece's front were taken.
+    /// That many octets of the piece's front were taken.
     Took(usize),
     /// The write failed and took no octet. A later one may succeed.
     Failed,
@@ -18,7 +18,7 @@ pub trait Sink {
     /// That what was taken is known. It is of a vector in memory, and is not of files and terminals.
     ghost tells: { Self → Type 0 };
 
-    /// The octets taken so far, where the sink tells.
+    /// The octets taken so far, if the sink tells.
     ghost taken: { Self → List ℕ };
 
     /// The number of failed writes so far, up to 2^64 - 1.

@@ -17,7 +17,7 @@ pub struct Packet {
 /// The answer of one send.
 #[derive(Clone, Copy, Debug, PartialEq, Eq)]
 pub enum DgramSend {
-    /// The datagram was sent, which has so many octets.
+    /// The datagram was sent, which has that many octets.
     Took(usize),
     /// There is no room yet.
     Again,
@@ -28,7 +28,7 @@ pub enum DgramSend {
 /// The answer of one receive.
 #[derive(Clone, Copy, Debug, PartialEq, Eq)]
 pub enum DgramRecv {
-    /// So many octets of a datagram stand at the buffer's front: all of them, or as many as there is room for. It came
+    /// That many octets of a datagram stand at the buffer's front: all of them, or as many as there is room for. It came
     /// from this address.
     Got(usize, SocketAddr),
     /// No datagram is there yet.
@@ -42,7 +42,7 @@ pub trait AsyncDgramSock {
     /// That what was received and sent is known. It is of sockets in memory, and is not of real ones.
     ghost tells: { Self → Type 0 };
 
-    /// What was received and sent so far, where the socket tells.
+    /// What was received and sent so far, if the socket tells.
     ghost sock_traffic: { Self → SockTraffic };
 
     /// The number of failed receives so far, up to 2^64 - 1.
@@ -60,7 +60,7 @@ pub trait AsyncDgramSock {
         ensures later { failed_sends self.old ≤ failed_sends self.new }
         ensures cause { SendCause result (failed_sends self.old) (failed_sends self.new) };
 
-    /// Waits until a datagram came, or there is room again, since an `Again`, but no longer than so many milliseconds.
+    /// Waits until a datagram came, or there is room again, since an `Again`, but no longer than that many milliseconds.
     /// It may return sooner.
     fn readable<R: Wait>(&mut self, rt: &R, millis: u64)
         ensures moves { Observed (tells self.new) (tells self.old) (sock_traffic self.new ≡ sock_traffic self.old) }

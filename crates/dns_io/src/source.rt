@@ -9,7 +9,7 @@ use std::alloc::{AllocError, Global};
 /// The answer of one read.
 #[derive(Clone, Copy, Debug, PartialEq, Eq)]
 pub enum SourceRead {
-    /// So many octets stand at the buffer's front.
+    /// That many octets stand at the buffer's front.
     Got(usize),
     /// No octet is left.
     End,
@@ -22,7 +22,7 @@ pub trait Source {
     /// That what is left is known. It is of octets in memory, and is not of files and terminals.
     ghost tells: { Self → Type 0 };
 
-    /// The octets left, where the source tells.
+    /// The octets left, if the source tells.
     ghost left: { Self → List ℕ };
 
     /// The number of failed reads so far, up to 2^64 - 1.

@@ -29,7 +29,7 @@ pub trait Spawner<W: Work> {
     /// That the works are known.
     ghost tells: { Self → Type 0 };
 
-    /// The addresses of the works that were given to `start` so far, refused ones among them, where the spawner tells.
+    /// The addresses of the works that were given to `start` so far, refused ones among them, if the spawner tells.
     ghost given: { Self → List SocketAddr };
 
     /// The number of refused starts so far, up to 2^64 - 1.
@@ -72,7 +72,7 @@ pub trait Spawner<W: Work> {
         }
     }
 
-    /// Starts the work in a thread of its own. Where it answers `Failed` or finds no memory the work was given up. It
+    /// Starts the work in a thread of its own. If it answers `Failed` or finds no memory the work was given up. It
     /// first joins threads whose work is done, as `join_ended` does. No clause says how many threads are kept, or that the
     /// work is done or given up.
     final fn start<R: Threads + Wait + Copy + Send + 'static>(
@@ -156,7 +156,7 @@ fn start_permitted<W: Work, S: Spawner<W>, R: Threads + Wait + Copy + Send + 'st
     }
 }
 
-/// Keeps a thread that was started, or joins it where it can't be kept, and counts one that could not be made.
+/// Keeps a thread that was started, or joins it if it can't be kept, and counts one that could not be made.
 fn keep_started<W: Work, S: Spawner<W>, R: Threads>(
     spawner: &mut S,
     rt: &R,

@@ -80,7 +80,7 @@ impl<D: Drop> Started<D> {
         self.flags.ended.load(Ordering::SeqCst)
     }
 
-    /// Waits for the thread's end. What the work gave is `None` where it was given up. No clause says which of both it is, and
+    /// Waits for the thread's end. What the work gave is `None` if it was given up. No clause says which of both it is, and
     /// none ties what is given to the work.
     pub fn join<R: Threads>(self, rt: &R) -> Option<D> {
         let Started { handle, flags: _ } = self;
@@ -88,8 +88,8 @@ impl<D: Drop> Started<D> {
     }
 }
 
-/// Starts the work in a thread. Where no thread can be made the answer is `None`, and the work was given up, as it was
-/// where there is no memory. No clause says that a work that was started is done: the thread reads a flag for whether it is
+/// Starts the work in a thread. If no thread can be made the answer is `None`, and the work was given up, as it was
+/// if there is no memory. No clause says that a work that was started is done: the thread reads a flag for whether it is
 /// to give it up, and of what is read there a proof knows nothing.
 pub fn start_work<R: Threads + Wait + Copy + Send + 'static, W: Work>(
     rt: &R,
@@ -107,7 +107,7 @@ pub fn start_work<R: Threads + Wait + Copy + Send + 'static, W: Work>(
     }
 }
 
-/// Starts the work in a thread, which has these flags too, or gives it up where no thread can be made.
+/// Starts the work in a thread, which has these flags too, or gives it up if no thread can be made.
 fn in_thread<R: Threads + Wait + Copy + Send + 'static, W: Work>(
     rt: &R,
     alloc: Global,

@@ -11,7 +11,7 @@ use Rattle.dns_name.specs.declared.opt_error.BuildDataError.TheVariants.{LongOpt
 use Rattle.dns_name.specs.OptData.{Taken}
 use Rattle.dns_name.specs.Place.{be16, two}
 
--- a code, and a text where there is one
+-- a code, and a text if there is one
 pub record Extended : Type 0 where
   pub code : ℕ
   pub text : Option (List ℕ)
@@ -65,7 +65,7 @@ abbrev pub MadeExtended : {E : Type 0} → ℕ → Option (List ℕ) → Result 
 MadeExtended c t (Ok k) = TextFits t × (k ≡ extended c t)
 MadeExtended c t (Err e) = 65533 < length (text_octets t)
 
--- the text behind a space, with U+FFFD for each part that is none
+-- the text after a space, with U+FFFD for each part that is none
 abbrev pub text_shown : Option (List ℕ) → List ℕ
 text_shown None = []
 text_shown (Some t) = 32 ∷ encode_utf8_all (lossy_chars t)

@@ -29,11 +29,11 @@ abbrev pub masked : ℕ → List ℕ → List ℕ
 masked s [] = []
 masked s (x ∷ xs) = mask_octet s x ∷ masked (s - 8) xs
 
--- how many octets so many bits take
+-- how many octets that many bits take
 abbrev pub octets_for : ℕ → ℕ
 octets_for s = (s + 7) / 8
 
--- octets with zeros behind them, w in all
+-- octets with zeros after them, w in all
 abbrev pub with_zeros : ℕ → List ℕ → List ℕ
 with_zeros w d = d ++ drop (length d) (replicate w 0)
 

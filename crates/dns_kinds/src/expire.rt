@@ -46,7 +46,7 @@ impl Expire {
         self.expire
     }
 
-    /// Reads none where nothing is left, else four octets.
+    /// Reads none if nothing is left, else four octets.
     pub fn parse(parser: &mut Parser<'_>) -> Result<Expire, ParseError>
         ensures { ParsesData (expire_data (rest parser.old)) parser.old parser.new result }
     {

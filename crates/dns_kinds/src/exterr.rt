@@ -80,7 +80,7 @@ impl<S: HoldsOctets> HeldExtendedError<S> {
 }
 
 impl<'a> HeldExtendedError<&'a [u8]> {
-    /// The text, or the octets where they are no UTF-8.
+    /// The text, or the octets if they are no UTF-8.
     pub fn text(&self) -> Option<Result<&'a str, &'a [u8]>>
         ensures { ReadsText self.now.text result }
     {
@@ -165,7 +165,7 @@ impl HeldExtendedError<Vec<u8>> {
         })
     }
 
-    /// The text, or the octets where they are no UTF-8.
+    /// The text, or the octets if they are no UTF-8.
     pub fn text(&self) -> Option<Result<&str, &[u8]>>
         ensures { ReadsText self.now.text result }
     {

@@ -33,7 +33,7 @@ impl Model for IdleTimeout {
 }
 
 impl IdleTimeout {
-    /// The whole units of a time in ms. Refused exactly where they are no number of 16 bits.
+    /// The whole units of a time in ms. Refused exactly if they are no number of 16 bits.
     pub fn try_from_millis(millis: u64) -> Result<IdleTimeout, FromDurationError>
         ensures { MatchResult result (λ t. (millis < 6553600) × (t ≡ millis / 100)) (λ _. 6553600 ≤ millis) }
     {
@@ -125,7 +125,7 @@ impl TcpKeepalive {
         self.timeout
     }
 
-    /// Reads none where nothing is left, else two octets.
+    /// Reads none if nothing is left, else two octets.
     pub fn parse(parser: &mut Parser<'_>) -> Result<TcpKeepalive, ParseError>
         ensures { ParsesData (keepalive_data (rest parser.old)) parser.old parser.new result }
     {

@@ -16,7 +16,7 @@ use std::alloc::Global;
 use std::fmt;
 use std::marker::Model;
 
-/// An address of which so many bits were sent, and for how many an answer is.
+/// An address of which that many bits were sent, and for how many an answer is.
 #[derive(Clone, Copy, Debug, PartialEq, Eq, PartialOrd, Ord, Hash)]
 pub struct ClientSubnet {
     source: u8,
@@ -187,7 +187,7 @@ impl<'a> ReadBack<'a> for ClientSubnet {
     ghost comes_back = { subnet_again };
 }
 
-/// The address, the source prefix behind a slash, and the scope prefix behind another where it isn't 0.
+/// The address, the source prefix after a slash, and the scope prefix after another if it isn't 0.
 impl fmt::Display for ClientSubnet {
     fn fmt<W: fmt::Write>(&self, f: &mut fmt::Formatter<W>) -> fmt::Result {
         let ClientSubnet {

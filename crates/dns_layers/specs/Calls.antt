@@ -8,6 +8,6 @@ use Rattle.dns_service.specs.Transport.{hinted}
 abbrev pub AnswersAs : {F E : Type 0} → (F → ℕ → Answer) → (ℕ → Answer) → Result F E → Type 0
 AnswersAs answer wanted result = IfOk result (λ f. (k : ℕ) → answer f k ≡ wanted k)
 
--- the request is as before but for this hint and its reserved octets
+-- the request is as before except for this hint and its reserved octets
 abbrev pub LeavesHint : {F E Meta : Type 0} → Option ℕ → Req Meta → Req Meta → Result F E → Type 0
 LeavesHint hint old new result = OnOk result (new ≡ record old { transport = hinted hint old.transport; reserved = new.reserved })

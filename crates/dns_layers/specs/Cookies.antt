@@ -56,9 +56,9 @@ verdict secret r = verdict_by secret r.client_addr.ip (r.received_secs % 2 ^ 32)
 
 -- ---- what a server answers by itself
 
--- REFUSED, by the header alone and truncated, without a cookie from an address that is denied; FORMERR where the cookie can't be
--- read; a new cookie to a request that has no question, with BADCOOKIE where its own was wrong; and a new cookie with BADCOOKIE to
--- a request that has questions, where its own isn't good and its address is denied
+-- REFUSED, by the header alone and truncated, without a cookie from an address that is denied; FORMERR if the cookie can't be
+-- read; a new cookie to a request that has no question, with BADCOOKIE if its own was wrong; and a new cookie with BADCOOKIE to
+-- a request that has questions, if its own isn't good and its address is denied
 abbrev pub own_answer : CookieVerdict → Bool → Bool → Option CookieAnswer
 own_answer Absent unasked denied = if denied then Some (Zero refused_code true) else None
 own_answer Malformed unasked denied = Some (Zero formerr false)
@@ -97,11 +97,11 @@ abbrev pub cookie_draft : Built → ℕ → Cookie → OptDraft
 cookie_draft b code c = record (opened_opt b)
     { head = record zero_head { ext = code / 16 }; low = code % 16; options = option_octets 10 (cookie_octets c) }
 
--- a message with that record, or as it is where the record has no room
+-- a message with that record, or as it is if the record has no room
 abbrev pub with_cookie : Built → ℕ → Cookie → Built
 with_cookie b code c = if within_limit (with_opt_record (cookie_draft b code c) b) then with_opt (cookie_draft b code c) b else b
 
--- an answer with that record, or SERVFAIL where the questions have no room
+-- an answer with that record, or SERVFAIL if the questions have no room
 abbrev pub fresh_reply : List ℕ → ℕ → Cookie → Msg
 fresh_reply o code c = if have_room begun_reply o (code % 16)
     then (with_cookie (answer_to begun_reply o (code % 16)) code c).message else error_reply o servfail
@@ -111,7 +111,7 @@ abbrev pub own_message : List ℕ → List ℕ → ℕ → IpAddr → CookieAnsw
 own_message secret o now address (Zero code tc) = zero_reply code tc
 own_message secret o now address (Fresh code c) = fresh_reply o code (response secret c now address)
 
--- the layer's own reply, where the layer is on and has one
+-- the layer's own reply, if the layer is on and has one
 abbrev pub cookie_own : {Meta : Type 0} → Option (List ℕ) → List IpAddr → Req Meta → Option Msg
 cookie_own None denied r = None
 cookie_own (Some secret) denied r = option_map (own_message secret r.octets (r.received_secs % 2 ^ 32) r.client_addr.ip)
@@ -127,7 +127,7 @@ abbrev pub cookies_by : {Meta : Type 0} → (Req Meta → ℕ → Answer) → Re
 cookies_by answer r k (Some m) = own_reply m k
 cookies_by answer r k None = answer r k
 
--- what the layer answers, on where it has a secret, by what the service inside answers
+-- what the layer answers, on if it has a secret, by what the service inside answers
 abbrev pub cookies : {Meta : Type 0} → Option (List ℕ) → List IpAddr → (Req Meta → ℕ → Answer) → Req Meta → ℕ → Answer
 cookies secret denied answer r k = cookies_by answer r k (cookie_own secret denied r)
 

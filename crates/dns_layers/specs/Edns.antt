@@ -25,7 +25,7 @@ use Rattle.dns_layers.specs.Rewritten.{hint_by, own_reply, rewritten}
 abbrev pub record_refusal : Bool → AskedRecord → Option ℕ
 record_refusal stream h = if nat_lt 0 h.version then Some badvers else (if stream && h.sends_timeout then Some formerr else None)
 
--- FORMERR for two or more items, or where the first is no record
+-- FORMERR for two or more items, or if the first is no record
 abbrev pub opt_refusal : Bool → AskedOpt → Option ℕ
 opt_refusal stream NoItem = None
 opt_refusal stream (One h) = record_refusal stream h
@@ -45,7 +45,7 @@ abbrev pub reserved_over : TransportSpecificContext → ℕ
 reserved_over (Udp hint) = 11
 reserved_over (NonUdp timeout) = 17
 
--- what is passed on by the client's size, none where the request has no OPT record
+-- what is passed on by the client's size, none if the request has no OPT record
 abbrev pub transport_by : Option ℕ → TransportSpecificContext → TransportSpecificContext
 transport_by None t = t
 transport_by (Some size) t = hinted (Some (negotiated (hint_of t) size)) t
@@ -71,12 +71,12 @@ abbrev pub in_kind : Bool → Msg → Msg
 in_kind true m = m
 in_kind false m = record m { additional = other_than 41 m.additional }
 
--- a time in ms as the units of a keepalive, where sixteen bits hold them
+-- a time in ms as the units of a keepalive, if sixteen bits hold them
 abbrev pub units_of : Option ℕ → Option ℕ
 units_of None = None
 units_of (Some millis) = if nat_lt millis 6553600 then Some (millis / 100) else None
 
--- the keepalive that a reply gets: over a stream, where the request has an OPT item
+-- the keepalive that a reply gets: over a stream, if the request has an OPT item
 abbrev pub keepalive_over : TransportSpecificContext → AskedOpt → Option ℕ
 keepalive_over (Udp hint) opt = None
 keepalive_over (NonUdp timeout) opt = if has_item opt then units_of timeout else None
@@ -92,7 +92,7 @@ and_empty m = record m { additional = m.additional ++ opt_record (opt_state zero
 abbrev pub and_fitting : Msg → Msg
 and_fitting m = if nat_le (length (wire (and_empty m))) 65535 then and_empty m else m
 
--- the message with an OPT record where it has none and an empty one fits, in reply to a request with one
+-- the message with an OPT record if it has none and an empty one fits, in reply to a request with one
 abbrev pub with_some_opt : Bool → Msg → Msg
 with_some_opt true m = if has_opt m.additional then m else and_fitting m
 with_some_opt false m = m
@@ -109,7 +109,7 @@ edns_rule t a = record { request_has_opt = is_some (client_size a.opt); keepaliv
 abbrev pub edns_post : {Meta : Type 0} → Req Meta → Msg → Msg
 edns_post r m = edns_by (edns_rule r.transport (asked_of r.octets)) m
 
--- the answers of an enabled layer, which answers by itself where it has a code
+-- the answers of an enabled layer, which answers by itself if it has a code
 abbrev pub edns_by_code : {Meta : Type 0} → (Req Meta → ℕ → Answer) → Req Meta → ℕ → Option ℕ → Answer
 edns_by_code answer r k (Some code) = own_reply (edns_post r (error_reply r.octets code)) k
 edns_by_code answer r k None = mapped (rewritten (edns_post r)) (answer (edns_passed r) k)

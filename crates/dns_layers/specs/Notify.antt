@@ -37,7 +37,7 @@ abbrev pub serial_read : Result RecordData ParseError → Option Serial
 serial_read (Ok d) = soa_serial d
 serial_read (Err e) = None
 
--- that of the first answer, where that is such a record and can be read
+-- that of the first answer, if that is such a record and can be read
 abbrev pub serial_among : List (Result Standing ParseError) → Option Serial
 serial_among [] = None
 serial_among (Ok s ∷ more) = serial_read s.content
@@ -50,7 +50,7 @@ serial_reached (Err e) = None
 abbrev pub notified_serial : List ℕ → Option Serial
 notified_serial o = serial_reached (reached (questions_of o).1 (standing_answers o))
 
--- by the first question, where that can be read and is for a zone's start
+-- by the first question, if that can be read and is for a zone's start
 abbrev pub notice_by : List ℕ → IpAddr → Option Question → Option Notice
 notice_by o source None = None
 notice_by o source (Some q) = if nat_eq q.qtype soa_type
@@ -67,7 +67,7 @@ notice_of r = if nat_eq (asked_of r.octets).opcode notify_opcode
 abbrev pub confirming : Msg → Msg
 confirming m = record m { header = record m.header { qr = true; aa = true; rcode = 0 } }
 
--- the copy of what was sent, confirmed; SERVFAIL where it can't be read whole or is too long
+-- the copy of what was sent, confirmed; SERVFAIL if it can't be read whole or is too long
 abbrev pub confirmation : List ℕ → Result Msg ParseError → Msg
 confirmation o (Ok m) = if nat_le (length (wire (confirming m))) 65535 then confirming m else error_reply o servfail
 confirmation o (Err e) = error_reply o servfail

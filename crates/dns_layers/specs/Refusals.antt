@@ -23,6 +23,6 @@ refusal_by s t a = first_some
     ∷ option_map ByEdns (if s.edns then opt_refusal (is_stream t) a.opt else None)
     ∷ [])
 
--- the client's size, where EDNS is on
+-- the client's size, if EDNS is on
 abbrev pub size_by : Settings → Asked → Option ℕ
 size_by s a = if s.edns then client_size a.opt else None

@@ -9,6 +9,6 @@ use Rattle.dns_layers.specs.Notify.{PolledVerdict}
 abbrev pub Verdicts : Type 0
 Verdicts = ℕ → List (List ℕ) → Option Serial → IpAddr → ℕ → PolledVerdict
 
--- those on a notice
+-- the verdicts on a notice
 abbrev pub verdict_on : Verdicts → Notice → ℕ → PolledVerdict
 verdict_on verdicts n = verdicts n.class n.apex_name n.serial n.source

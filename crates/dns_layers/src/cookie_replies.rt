@@ -27,7 +27,7 @@ fn zero_reply(alloc: Global, rcode: Rcode, tc: bool) -> Result<AdditionalBuilder
     Ok(reply.additional())
 }
 
-/// An answer with a cookie, or SERVFAIL where the questions have no room.
+/// An answer with a cookie, or SERVFAIL if the questions have no room.
 fn fresh_reply(
     alloc: Global,
     request: &Message,
@@ -44,7 +44,7 @@ fn fresh_reply(
     }
 }
 
-/// The reply with an OPT record that holds the code and the cookie, where it has room.
+/// The reply with an OPT record that holds the code and the cookie, if it has room.
 fn with_cookie(
     reply: AdditionalBuilder,
     alloc: Global,
@@ -96,7 +96,7 @@ fn own_message(
     }
 }
 
-/// The layer's own reply to a request, where the layer is on and has one. This was read of the request.
+/// The layer's own reply to a request, if the layer is on and has one. This was read of the request.
 pub fn cookie_own<Meta>(
     alloc: Global,
     secret: Option<[u8; 16]>,
@@ -113,7 +113,7 @@ pub fn cookie_own<Meta>(
     own_where_on(alloc, &secret, denied, request, asked)
 }
 
-/// The own reply of a layer that is on, where it has one. This was read of the request.
+/// The own reply of a layer that is on, if it has one. This was read of the request.
 #[inline(never)]
 fn own_where_on<Meta>(
     alloc: Global,

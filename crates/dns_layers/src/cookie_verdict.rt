@@ -107,7 +107,7 @@ fn own_answer(verdict: CookieVerdict, unasked: bool, denied: bool) -> Option<Coo
     }
 }
 
-/// An answer with a new cookie where it is wanted.
+/// An answer with a new cookie if it is wanted.
 fn fresh_where(wanted: bool, rcode: OptRcode, cookie: Cookie) -> Option<CookieAnswer>
     ensures { result ≡ (if wanted then Some (CookieAnswer.Fresh rcode cookie) else None) }
 {
@@ -180,7 +180,7 @@ fn sent_answer(
 }
 
 /// What the layer answers by itself, by the first cookie of a request. The hash of the cookie and the addresses that are denied
-/// are looked at only where the answer depends on them.
+/// are looked at only if the answer depends on them.
 fn answer_by(
     secret: &[u8; 16],
     denied: &[IpAddr],
@@ -204,7 +204,7 @@ fn answer_by(
     }
 }
 
-/// What the layer answers a request by itself, where this was read of the request.
+/// What the layer answers a request by itself, if this was read of the request.
 pub(crate) fn cookie_answer<Meta>(
     secret: &[u8; 16],
     denied: &[IpAddr],

@@ -72,7 +72,7 @@ impl<S> CookiesMiddlewareSvc<S> {
         }
     }
 
-    /// The layer's own reply to a request, where it has one.
+    /// The layer's own reply to a request, if it has one.
     fn own_reply<Meta>(
         &self,
         alloc: Global,
@@ -86,7 +86,7 @@ impl<S> CookiesMiddlewareSvc<S> {
         cookie_own(alloc, secret, self.denied.as_slice(), request, &asked)
     }
 
-    /// The secret, where the layer is enabled.
+    /// The secret, if the layer is enabled.
     fn secret(&self) -> Option<[u8; 16]>
         ensures { result ≡ secret_where self.now.enabled self.now.secret }
     {

@@ -76,7 +76,7 @@ where
     }
 }
 
-/// The replies of an enabled layer: its own where it refuses the request, else the inner ones.
+/// The replies of an enabled layer: its own if it refuses the request, else the inner ones.
 fn spoken<S: Service<Meta>, Meta>(
     alloc: Global,
     next: &S,

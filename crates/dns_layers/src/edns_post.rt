@@ -46,7 +46,7 @@ impl Rewrite for EdnsPost {
     }
 }
 
-/// Drops a reply's OPT records, where the request has none.
+/// Drops a reply's OPT records, if the request has none.
 fn in_kind(alloc: Global, has_opt: bool, reply: &mut AdditionalBuilder) -> Result<(), OutOfMemory>
     ensures { OnOk result (reply.new ≡ record reply.old { message = in_kind has_opt reply.old.message }) }
 {
@@ -82,7 +82,7 @@ fn units_of(timeout: Option<u64>) -> Option<IdleTimeout>
     }
 }
 
-/// Adds a keepalive where there is one and it has room.
+/// Adds a keepalive if there is one and it has room.
 fn with_keepalive(
     alloc: Global,
     keepalive: Option<IdleTimeout>,
@@ -97,7 +97,7 @@ fn with_keepalive(
     put_keepalive(alloc, timeout, reply)
 }
 
-/// Adds a keepalive where it has room.
+/// Adds a keepalive if it has room.
 #[inline(never)]
 fn put_keepalive(
     alloc: Global,
@@ -113,7 +113,7 @@ fn put_keepalive(
     }
 }
 
-/// Adds an empty OPT record in reply to a request that has one, where the reply has none and it has room.
+/// Adds an empty OPT record in reply to a request that has one, if the reply has none and it has room.
 fn with_some_opt(
     alloc: Global,
     request_has_opt: bool,
@@ -128,7 +128,7 @@ fn with_some_opt(
     and_some_opt(alloc, reply)
 }
 
-/// Adds an empty OPT record where the reply has none and it has room.
+/// Adds an empty OPT record if the reply has none and it has room.
 #[inline(never)]
 fn and_some_opt(alloc: Global, reply: &mut AdditionalBuilder) -> Result<(), OutOfMemory>
     requires { reply.old.limit ≡ 65535 }
@@ -140,7 +140,7 @@ fn and_some_opt(alloc: Global, reply: &mut AdditionalBuilder) -> Result<(), OutO
     and_fitting(alloc, reply)
 }
 
-/// Adds an empty OPT record where it has room.
+/// Adds an empty OPT record if it has room.
 fn and_fitting(alloc: Global, reply: &mut AdditionalBuilder) -> Result<(), OutOfMemory>
     requires { reply.old.limit ≡ 65535 }
     ensures { OnOk result (reply.new ≡ record reply.old { message = and_fitting reply.old.message }) }

@@ -20,12 +20,12 @@ pub struct MandatoryPost {
     pub id: u16,
     /// The request's RD flag.
     pub rd: bool,
-    /// How many octets a reply may take, where that is limited.
+    /// How many octets a reply may take, if that is limited.
     pub limit: Option<u16>,
 }
 
 impl MandatoryPost {
-    /// The rule for what is asked over a transport, where the hint is this one after the call.
+    /// The rule for what is asked over a transport, if the hint is this one after the call.
     pub fn new(
         asked: &Asked,
         transport: &TransportSpecificContext,
@@ -62,7 +62,7 @@ fn respond(id: u16, rd: bool, reply: &mut AdditionalBuilder)
     reply.set_header(header);
 }
 
-/// A rewritten reply over UDP has no more octets than the hint allows, and 512 where the hint allows less.
+/// A rewritten reply over UDP has no more octets than the hint allows, and 512 if the hint allows less.
 pub fn replies_fit()
     ensures { (r : Req (Unit {0})) (before hint : Option ℕ) (m : Msg) → r.transport ≡ TransportSpecificContext.Udp before
         → length (wire (mand_post (limit hint) r m)) ≤ limit hint }

@@ -20,13 +20,13 @@ pub struct Notice {
     pub class: Class,
     /// The name of the zone.
     pub apex_name: Name,
-    /// The serial that the sender says the zone has, where it does.
+    /// The serial that the sender says the zone has, if it does.
     pub serial: Option<Serial>,
     /// The sender.
     pub source: IpAddr,
 }
 
-/// What a request asks the target, where this was read of the request.
+/// What a request asks the target, if this was read of the request.
 #[inline(always)]
 pub fn notice_of<Meta>(
     alloc: Global,
@@ -42,7 +42,7 @@ pub fn notice_of<Meta>(
     notice_in(alloc, request.message(), request.client_addr().ip)
 }
 
-/// What a message from a sender asks, where its first question is for a zone's start.
+/// What a message from a sender asks, if its first question is for a zone's start.
 fn notice_in(
     alloc: Global,
     message: &Message,
@@ -84,7 +84,7 @@ fn made_notice(
     })
 }
 
-/// The serial in the first answer, where that is a zone's start and can be read.
+/// The serial in the first answer, if that is a zone's start and can be read.
 fn notified_serial(alloc: Global, message: &Message) -> Result<Option<Serial>, OutOfMemory>
     ensures { IfOk result (λ s. s ≡ notified_serial message.now) }
 {
@@ -105,7 +105,7 @@ fn first_serial(alloc: Global, records: RecordIter<'_>) -> Result<Option<Serial>
     }
 }
 
-/// The serial in a record, where that is a zone's start and can be read.
+/// The serial in a record, if that is a zone's start and can be read.
 fn serial_in(alloc: Global, resource: &RecordRef<'_>) -> Result<Option<Serial>, OutOfMemory>
     ensures { IfOk result (λ s. s ≡ serial_read resource.now.content) }
 {
@@ -116,7 +116,7 @@ fn serial_in(alloc: Global, resource: &RecordRef<'_>) -> Result<Option<Serial>, 
     }
 }
 
-/// The serial of a record, where that is a zone's start.
+/// The serial of a record, if that is a zone's start.
 fn serial_of(resource: Record) -> Option<Serial>
     ensures { result ≡ soa_serial resource.rdata }
 {

@@ -38,7 +38,7 @@ pub trait VerdictFuture: Drop {
 pub trait Notifiable: Drop {
     type Future: VerdictFuture;
 
-    /// The verdict at poll k, by class, name of the zone, serial where there is one, and sender.
+    /// The verdict at poll k, by class, name of the zone, serial if there is one, and sender.
     ghost verdict: { Self → ℕ → Name → Option Serial → IpAddr → ℕ → Polled (Result (Unit {0}) NotifyError) };
 
     fn notify_zone_changed(

@@ -36,7 +36,7 @@ fn confirmation(alloc: Global, request: &Message) -> Result<AdditionalBuilder, O
     }
 }
 
-/// A copy, confirmed, or SERVFAIL to the message where it is too long.
+/// A copy, confirmed, or SERVFAIL to the message if it is too long.
 fn confirmed(
     alloc: Global,
     request: &Message,

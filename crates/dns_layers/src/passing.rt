@@ -61,7 +61,7 @@ fn call_inside<S: Service<Meta>, Meta>(
     Ok(future)
 }
 
-/// The request as it is passed on, by the client's size, where it has an OPT record: its hint is negotiated, and octets
+/// The request as it is passed on, by the client's size, if it has an OPT record: its hint is negotiated, and octets
 /// for an OPT record are reserved.
 pub fn pass_on<Meta>(size: Option<u16>, request: &mut Request<Meta>)
     ensures { request.new ≡ passed_by size request.old }

@@ -26,7 +26,7 @@ pub fn read_request<Meta>(request: &Request<Meta>) -> Asked
     read_asked(request.message())
 }
 
-/// Why what is asked over a transport is refused, where it is.
+/// Why what is asked over a transport is refused, if it is.
 pub fn refusal_by(
     settings: &Settings,
     transport: &TransportSpecificContext,
@@ -46,7 +46,7 @@ pub fn refusal_by(
     }
 }
 
-/// The client's size, where EDNS is on.
+/// The client's size, if EDNS is on.
 pub fn size_by(settings: &Settings, asked: &Asked) -> Option<u16>
     ensures { result ≡ size_by settings.now asked.now }
 {

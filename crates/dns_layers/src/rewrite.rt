@@ -16,7 +16,7 @@ pub trait Rewrite: Drop {
     /// The rewritten reply.
     ghost rewriting: { Self → Msg → Msg };
 
-    /// Rewrites a reply in place. After want of memory the reply isn't to be used. Its push limit may be any, and may be
+    /// Rewrites a reply in place. After memory ran out the reply isn't to be used. Its push limit may be any, and may be
     /// left as any: a rule that pushes clears it first (`clear_push_limit`), since a push that would pass it is refused.
     fn rewrite(&self, alloc: Global, reply: &mut AdditionalBuilder) -> Result<(), OutOfMemory>
         ensures { OnOk result (reply.new.message ≡ rewriting self.now reply.old.message) };
@@ -53,7 +53,7 @@ impl<R: Rewrite> Postprocess<()> for Rewriting<R> {
     }
 }
 
-/// Rewrites the reply in an item, where it has one.
+/// Rewrites the reply in an item, if it has one.
 pub(crate) fn rewrite_item<R: Rewrite>(
     rule: &R,
     alloc: Global,
@@ -80,7 +80,7 @@ fn rewrite_given<R: Rewrite>(
     }
 }
 
-/// Rewrites the reply in an answer, where it has one. After want of memory the answer isn't to be used.
+/// Rewrites the reply in an answer, if it has one. After memory ran out the answer isn't to be used.
 pub fn rewrite_answer<R: Rewrite>(
     rule: &R,
     alloc: Global,

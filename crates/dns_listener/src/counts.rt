@@ -55,7 +55,7 @@ fn reply_numbers(counts: &ReplyCounts, code: &'static str, number: Rcode) -> Rep
     }
 }
 
-/// How many replies had each response code that is told.
+/// How many replies had each response code that has a line.
 fn all_replies(counts: &ReplyCounts) -> [ReplyNumbers; 7] {
     [
         reply_numbers(counts, "NOERROR", Rcode::NOERROR),

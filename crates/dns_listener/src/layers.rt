@@ -20,7 +20,7 @@ use std::rt::Clock;
 use std::sync::{Arc, Wait};
 use std::thread::Threads;
 
-/// How many octets the server takes over UDP where the settings say nothing.
+/// How many octets the server takes over UDP if the settings say nothing.
 const UDP_SIZE: u16 = 1_232;
 
 /// How many octets the server takes over UDP.
@@ -107,7 +107,7 @@ where
     serve_sized(rt, alloc, place, tally, OwnOptSvc::new(service, size))
 }
 
-/// Serves with the identifier of the server where it is asked for (RFC 5001).
+/// Serves with the identifier of the server if it is asked for (RFC 5001).
 fn serve_identified<
     R: Clock + Threads + Wait + Copy + Send + Sync + 'static,
     S: Service<()> + Send + Sync + 'static,
@@ -128,7 +128,7 @@ where
     serve_stating(rt, alloc, place, tally, NsidSvc::new(service, nsid), size)
 }
 
-/// Serves with a server cookie in each reply to a request with a client cookie, where there is a secret (RFC 7873, section 5.2).
+/// Serves with a server cookie in each reply to a request with a client cookie, if there is a secret (RFC 7873, section 5.2).
 fn serve_with_cookies<
     R: Clock + Threads + Wait + Copy + Send + Sync + 'static,
     S: Service<()> + Send + Sync + 'static,

@@ -1,7 +1,7 @@
 //! What serves zones at an address: the sockets, the service in its layers, and the threads.
 //!
 //! - `Listener` has the sockets of an address: one for connections, and one for datagrams for each worker. `bind_all` opens
-//!   those of a configuration, and `say_listeners` says where is listened.
+//!   those of a configuration, and `say_listeners` writes their addresses.
 //! - `Offer` is what is served: the zones, by settings, with the target of NOTIFY and the identifier of the server.
 //! - `Running` is a listener that serves an offer in a thread. `has_ended` says whether one has ended by itself, and `close_all`
 //!   shuts them down. `take_back` gives the listeners back, whose sockets stay open for what is served next.
@@ -17,7 +17,7 @@
 //!
 //! # What is proved
 //!
-//! - Each function is safe, and returns but for those that wait. What each layer makes of replies is proved in its crate.
+//! - Each function is safe, and returns except for those that wait. What each layer makes of replies is proved in its crate.
 //! - How many octets the server takes over UDP is what the settings say, and else 1,232.
 //!
 //! # What a body could still get away with

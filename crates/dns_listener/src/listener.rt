@@ -1,4 +1,4 @@
-//! Sockets that are listened at.
+//! The sockets of an address.
 
 use anyhow::Context;
 use dns_config::Config;
@@ -36,7 +36,7 @@ fn worker<R: Clock + Copy>(
     Ok(Worker::new(sock, HostClock::new(rt), Silent::new()))
 }
 
-/// How many workers share an address: one where a socket takes datagrams over IPv4 and IPv6.
+/// How many workers share an address: one if a socket takes datagrams over IPv4 and IPv6.
 fn shared_by(address: SocketAddr, wanted: usize) -> usize {
     if address.ip == IpAddr::V6([0; 16]) {
         return 1;
@@ -44,7 +44,7 @@ fn shared_by(address: SocketAddr, wanted: usize) -> usize {
     wanted
 }
 
-/// A socket of datagrams at an address, which others share where there are several.
+/// A socket of datagrams at an address, which others share if there are several.
 fn bind_sock<N: Net>(net: &N, address: SocketAddr, wanted: usize) -> anyhow::Result<MioSock> {
     let shown = SocketAddrText(address);
     let bound = if wanted > 1 {
@@ -83,7 +83,7 @@ fn bind_accept<N: Net>(net: &N, wanted: SocketAddr) -> anyhow::Result<(MioAccept
 }
 
 impl<R: Net + Clock + Copy> Listener<R> {
-    /// Opens the sockets of an address, the one of connections first, since it is refused where another server has the address. At
+    /// Opens the sockets of an address, the one of connections first, since it is refused if another server has the address. At
     /// port 0 the system picks the port of all.
     pub(crate) fn bind(
         rt: R,
@@ -129,7 +129,7 @@ pub fn bind_all<R: Net + Clock + Threads + Copy>(
     Ok(listeners)
 }
 
-/// Says where is listened.
+/// Writes the addresses at which it listens.
 pub fn say_listeners<P: Print, R>(rt: &P, listeners: &[Listener<R>]) -> anyhow::Result<()> {
     for listener in listeners {
         println!(rt; "listening on {}", SocketAddrText(listener.address))?;

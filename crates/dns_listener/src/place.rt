@@ -27,7 +27,7 @@ pub(crate) struct Place<R> {
 }
 
 impl<R: Wait + Copy> Place<R> {
-    /// Shuts the book down for want of memory.
+    /// Shuts the book down because memory ran out.
     pub(crate) fn give_up(self, rt: R) -> (Listener<R>, HostEnd) {
         let Place {
             listener,

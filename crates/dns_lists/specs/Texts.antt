@@ -7,11 +7,11 @@ use Rattle.std.specs.Str.{is_utf8}
 abbrev pub hex : ℕ → List ℕ
 hex n = digits 16 true n
 
--- octets, each with a space behind it
+-- octets, each with a space after it
 abbrev pub spaced_text : List ℕ → List ℕ
 spaced_text d = flat_map (λ x. hex x ++ 32 ∷ []) d
 
--- the octets as text in brackets, where they are text
+-- the octets as text in brackets, if they are text
 abbrev pub bracketed : List ℕ → List ℕ
 bracketed d = if is_utf8 d then 40 ∷ (d ++ 41 ∷ []) else []
 
@@ -23,7 +23,7 @@ octets_text d = spaced_text d ++ bracketed d
 abbrev pub plain_text : List ℕ → List ℕ
 plain_text d = flat_map (λ x. hex (x / 16) ++ hex (x % 16)) d
 
--- numbers, each behind a comma and a space
+-- numbers, each after a comma and a space
 abbrev pub more_numbers_text : List ℕ → List ℕ
 more_numbers_text ns = flat_map (λ n. 44 ∷ 32 ∷ hex n) ns
 

@@ -246,7 +246,7 @@ impl<'a> ReadBack<'a> for HeldKeyTag<&'a [u8]> {
     ghost comes_back = { tags_again };
 }
 
-/// Writes tags in hexadecimal, each behind a comma and a space.
+/// Writes tags in hexadecimal, each after a comma and a space.
 fn write_more<W: fmt::Write>(tags: KeyTagIter<'_>, f: &mut fmt::Formatter<W>) -> fmt::Result
     ensures { WritesOnOk W.write_str_gives f.old result (more_numbers_text tags.entry) f.new }
 {

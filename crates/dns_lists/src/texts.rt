@@ -5,7 +5,7 @@ ghost use Rattle.dns_lists.specs.Texts.{bracketed, octets_text, plain_text, spac
 
 use std::fmt;
 
-/// Writes each octet in hexadecimal, with a space behind it.
+/// Writes each octet in hexadecimal, with a space after it.
 pub(crate) fn write_spaced<W: fmt::Write>(octets: &[u8], f: &mut fmt::Formatter<W>) -> fmt::Result
     ensures { WritesOnOk W.write_str_gives f.old result (spaced_text octets.now) f.new }
 {
@@ -17,7 +17,7 @@ pub(crate) fn write_spaced<W: fmt::Write>(octets: &[u8], f: &mut fmt::Formatter<
     Ok(())
 }
 
-/// Writes octets as text in brackets, where they are text.
+/// Writes octets as text in brackets, if they are text.
 fn write_bracketed<W: fmt::Write>(octets: &[u8], f: &mut fmt::Formatter<W>) -> fmt::Result
     ensures { WritesOnOk W.write_str_gives f.old result (bracketed octets.now) f.new }
 {

@@ -128,7 +128,7 @@ over l e is s Over at = (at, refl)
 over l e is s (InDatagrams es) at = absurd (subst (λ (w : Stage). IsStage s (InDatagrams es) w) is at.stage)
 over l e is s (OverConnection m now es) at = absurd (subst (λ (w : Stage). IsStage s (OverConnection m now es) w) is at.stage)
 
--- a connection is asked for, behind a truncated answer
+-- a connection is asked for, after a truncated answer
 pub connected : (s : Subject) (es : List AskingEvent) (l : Lookup) (a : Asking) (copy truncated octets sent : List ℕ) (at : ℕ) → IsAt s (InDatagrams es) l → copy ≡ l.message
     → HasHeard (record { message = copy; id = l.id; tries = in_range 1 8 1; timeout = max l.upstream.timeout 1; at = at }) [] a
     → ((q : Inquiry) (xs : List AskingEvent) → HasHeard q xs a → octets ≡ with_id q.id q.message) → sent ≡ octets
@@ -142,7 +142,7 @@ connected s es l a copy truncated octets sent at was same heard says is =
     subst (λ (u : UpstreamConfig). HasHeard (record { message = s.message; id = s.id; tries = in_range 1 8 1; timeout = max u.timeout 1; at = at }) [] a) was.upstream two in
     (staged s (InDatagrams es) (OverConnection truncated at []) l (Connection a truncated) was (all, refl), ap (λ (o : List ℕ). Connect o) (is ∙ says (by_connection s at) [] all))
 
--- what an outcome leads to, where it is this one
+-- what an outcome leads to, if it is this one
 pub datagram-is : (old new : Lookup) (at : ℕ) (x y : AskingOutcome) (o : LookupOutcome) → x ≡ y → DatagramsLead old new (λ s es. by_datagram s at es y) o → DatagramsLead old new (λ s es. by_datagram s at es x) o
 datagram-is old new at x y o is h s es was = subst (λ (w : AskingOutcome). LeadsTo s (by_datagram s at es w) new o) (sym is) (h s es was)
 

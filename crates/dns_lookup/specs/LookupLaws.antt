@@ -19,7 +19,7 @@ abbrev pub ForgeriesLeadToNothing : Type 0
 ForgeriesLeadToNothing = (s : Subject) (p : Progress) (from : SocketAddr) (at : ℕ) (o : List ℕ) → matches s.message s.id o ≡ false
     → ((lookup_step s p (Datagram from at o)).1 ≡ Nothing) × ((lookup_step s p (Frame at o)).1 ≡ Nothing)
 
--- where none has ended it, a datagram of the upstream that matches is the answer, under the identifier of the message
+-- if none has ended it, a datagram of the upstream that matches is the answer, under the identifier of the message
 abbrev pub FirstMatchAnswers : Type 0
 FirstMatchAnswers = (s : Subject) (es : List AskingEvent) (from : SocketAddr) (at : ℕ) (o : List ℕ)
     → has_ended (by_datagrams s) es ≡ false → same_socket from s.upstream.addr ≡ true → matches s.message s.id o ≡ true

@@ -1,4 +1,4 @@
--- The lookup of a message at an upstream: it is sent in datagrams, and again over a connection where the first answer is truncated
+-- The lookup of a message at an upstream: it is sent in datagrams, and again over a connection if the first answer is truncated
 -- (RFC 1035, section 4.2; RFC 2181, section 9; RFC 7766, section 5).
 use Rattle.std.specs.Prelude.{◌≡◌, ℕ, max, List, [], ◌∷◌, ◌++◌, Bool, true, false, ◌&&◌, if◌then◌else◌, nat_eq, Option, Some, None, Result, Ok, Err}
 use Rattle.dns_name.specs.declared.address.SocketAddr.{SocketAddr}
@@ -58,7 +58,7 @@ heard_datagram upstream (Tick at) = Some (Asking_event.Tick at)
 heard_datagram upstream (Frame at o) = None
 heard_datagram upstream Lost = None
 
--- and that over a connection
+-- what the asking over a connection hears of an event
 abbrev pub heard_frame : LookupEvent → Option AskingEvent
 heard_frame (Frame at o) = Some (Asking_event.Arrived at o)
 heard_frame (Tick at) = Some (Asking_event.Tick at)
@@ -100,7 +100,7 @@ by_datagram s at es (OfTick Tick_leads.Nothing) = (InDatagrams es, Nothing)
 by_datagram s at es (OfTick Tick_leads.Send) = (InDatagrams es, Send (question s))
 by_datagram s at es (OfTick Tick_leads.GaveUp) = (Over, Answer (Err Timeout))
 
--- where none comes over a connection, the truncated answer is the answer
+-- if none comes over a connection, the truncated answer is the answer
 abbrev pub by_frame : List ℕ → ℕ → List AskingEvent → AskingOutcome → Led
 by_frame m at es (OfArrival None) = (OverConnection m at es, Nothing)
 by_frame m at es (OfArrival (Some o)) = (Over, Answer (Ok o))
@@ -108,7 +108,7 @@ by_frame m at es (OfTick Tick_leads.Nothing) = (OverConnection m at es, Nothing)
 by_frame m at es (OfTick Tick_leads.Send) = (OverConnection m at es, Nothing)
 by_frame m at es (OfTick Tick_leads.GaveUp) = (Over, Answer (Ok m))
 
--- an event that an asking hears behind others, or doesn't
+-- an event that an asking hears after others, or doesn't
 abbrev pub datagram_heard : Subject → ℕ → List AskingEvent → Option AskingEvent → Led
 datagram_heard s at es None = (InDatagrams es, Nothing)
 datagram_heard s at es (Some x) = by_datagram s at (es ++ x ∷ []) (outcome (by_datagrams s) es x)

@@ -13,7 +13,7 @@ pub fn forgeries_lead_to_nothing()
     ensures { ForgeriesLeadToNothing }
 {}
 
-/// The first datagram of the upstream that matches is the answer, or is asked again over a connection where it is truncated.
+/// The first datagram of the upstream that matches is the answer, or is asked again over a connection if it is truncated.
 pub fn first_match_answers()
     ensures { FirstMatchAnswers }
 {}

@@ -96,7 +96,7 @@ fn moment(event: &LookupEvent) -> u64
 }
 
 impl Lookup {
-    /// An event of the lookup. A datagram from elsewhere than the upstream, or that doesn't match, is nothing to it. Where it
+    /// An event of the lookup. A datagram from elsewhere than the upstream, or that doesn't match, is nothing to it. If it
     /// finds no memory the lookup has ended, and every later event is nothing to it.
     pub fn step(&mut self, alloc: Global, event: &LookupEvent) -> Result<LookupOutcome, OutOfMemory>
         ensures ok { IfOk result (Steps self.old event.now self.new) }

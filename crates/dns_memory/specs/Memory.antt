@@ -25,7 +25,7 @@ pub record Store : Type 0 where
 abbrev pub next : ℕ → ℕ
 next calls = min (calls + 1) (2 ^ 64 - 1)
 
--- how many of n octets one call moves: at most so many, and at least one
+-- how many of n octets one call moves: at most that many, and at least one
 abbrev pub moved_at_once : ℕ → ℕ → ℕ
 moved_at_once most n = min n (max most 1)
 
@@ -35,7 +35,7 @@ Supplies (Got n) room a b = (n ≡ moved_at_once a.most (min (length a.left) roo
 Supplies End room a b = (a.left ≡ []) × (b.faults ≡ a.faults)
 Supplies Failed room a b = b.faults ≡ next a.faults
 
--- a write of a piece of so many octets, with the sink a before it and b after it
+-- a write of a piece of that many octets, with the sink a before it and b after it
 abbrev pub Stores : SinkWrite → ℕ → Store → Store → Type 0
 Stores (Took n) size a b = (n ≡ moved_at_once a.most size) × (b.faults ≡ a.faults)
 Stores WriteFailed size a b = b.faults ≡ next a.faults

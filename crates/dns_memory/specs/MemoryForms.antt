@@ -49,7 +49,7 @@ LinkReads ReadAgain room a b = TakesFate AgainFate a.reads b.reads
 LinkReads End room a b = TakesFate CarriedOut a.reads b.reads × (a.left ≡ [])
 LinkReads ReadFailed room a b = TakesFate FailedFate a.reads b.reads
 
--- one write of a piece of so many octets; one for which there is no memory fails too
+-- one write of a piece of that many octets; one for which there is no memory fails too
 abbrev pub LinkWrites : LinkWrite → ℕ → LinkState → LinkState → Type 0
 LinkWrites (Took n) size a b = TakesFate CarriedOut a.writes b.writes × (n ≡ moved_at_once a.most size)
 LinkWrites WriteAgain size a b = TakesFate AgainFate a.writes b.writes
@@ -71,7 +71,7 @@ sock_traffic_of t = record { received = t.received; sent = t.sent; empty_receive
 abbrev pub SockTells : SockState → Type 0
 SockTells t = StillCounts t.receives.agains × StillCounts t.sends.agains
 
--- one receive, with the socket a before it and b after it; Again comes also where no datagram is left
+-- one receive, with the socket a before it and b after it; Again comes also if no datagram is left
 abbrev pub SockReceives : DgramRecv → SockState → SockState → Type 0
 SockReceives (RecvGot n from) a b = TakesFate CarriedOut a.receives b.receives × (length a.left ≡ length b.left + 1)
 SockReceives RecvAgain a b = (b.receives ≡ record a.receives { made = next a.receives.made; agains = next a.receives.agains })
@@ -94,7 +94,7 @@ pub record AcceptState (L : Type 0) : Type 0 where
 abbrev pub accept_traffic_of : {L : Type 0} → AcceptState L → AcceptTraffic
 accept_traffic_of l = record { callers = l.callers; empty_accepts = l.calls.agains }
 
--- one accept, with the object a before it and b after it; Again comes also where no connection is left, and one for whose address
+-- one accept, with the object a before it and b after it; Again comes also if no connection is left, and one for whose address
 -- there is no memory fails too
 abbrev pub AcceptsNext : {L : Type 0} → AcceptAnswer L → AcceptState L → AcceptState L → Type 0
 AcceptsNext (Accepted link from) a b = TakesFate CarriedOut a.calls b.calls × (a.left ≡ (link, from) ∷ b.left)
@@ -106,7 +106,7 @@ pub record ClockState : Type 0 where
   pub listed : List (ℕ × ℕ)  -- the readings that it gives first
   pub given : ℕ  -- the number of readings given
 
--- the last of some readings, or the beginning of time where there is none
+-- the last of some readings, or the beginning of time if there is none
 abbrev pub last_reading : List (ℕ × ℕ) → ℕ × ℕ
 last_reading l = get_or l (length l - 1) (0, 0)
 

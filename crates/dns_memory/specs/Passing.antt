@@ -8,7 +8,7 @@ pub record Passing (A : Type 0) : Type 0 where
   pub came : List A
   pub left : List A
 
--- n octets came, of which the buffer then holds the front, as many as it has room for and at most so many
+-- n octets came, of which the buffer then holds the front, as many as it has room for and at most that many
 pub record PartCame (n most : ℕ) (buf : List ℕ) (a b : Passing ℕ) : Type 0 where
   pub some : 1 ≤ length a.left
   pub count : n ≡ min (min (length a.left) (length buf)) most

@@ -30,7 +30,7 @@ impl<D: Drop> KeptThreads<D> {
         Ok(self.threads.reserve(1)?)
     }
 
-    /// Keeps a thread, or hands it back where there is no memory.
+    /// Keeps a thread, or hands it back if there is no memory.
     pub(crate) fn keep(&mut self, thread: Started<D>) -> Option<Started<D>>
         ensures kept { IfNone result (self.new.threads.items ≡ self.old.threads.items ++ thread ∷ []) }
         ensures refused { IfSome result (λ back. (back ≡ thread) × (self.new.threads.items ≡ self.old.threads.items)) }
@@ -41,7 +41,7 @@ impl<D: Drop> KeptThreads<D> {
         }
     }
 
-    /// Looks at one thread more, and gives it where its work is done.
+    /// Looks at one thread more, and gives it if its work is done.
     pub(crate) fn ended(&mut self) -> Option<Started<D>>
         ensures all { IfNone result (self.new.threads.items ≡ self.old.threads.items) }
         ensures others { IfSome result (λ thread. vec_len self.new.threads + 1 ≡ vec_len self.old.threads) }

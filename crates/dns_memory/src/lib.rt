@@ -3,7 +3,7 @@
 //! - Forms named `Memory..` fail or answer Again at listed calls. `ListedCalls` counts calls from 0 and says which of
 //!   them fail or answer Again (`CallFate`).
 //! - Forms named `Steady..` never fail: `SteadySource`, `SteadySink`, `SteadyLink`, `SteadySock`, `SteadyAccept`.
-//! - `MemoryClock` gives the readings of a list, and then the last one for ever.
+//! - `MemoryClock` gives the readings of a list, and then the last one forever.
 //! - `MemorySpawner` starts each work in a thread, except the listed starts, and tells the addresses. `ThreadSpawner`
 //!   starts each work in a thread and tells nothing.
 //!

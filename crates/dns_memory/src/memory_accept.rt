@@ -14,7 +14,7 @@ use std::marker::Model;
 use std::sync::Wait;
 
 /// Connections over links of any type, in their order. It tells who came as long as it can count. The listed calls fail
-/// or answer Again; a call answers Again too where no connection is left, and fails where there is no memory for the
+/// or answer Again; a call answers Again too if no connection is left, and fails if there is no memory for the
 /// address.
 #[derive(Drop)]
 pub struct MemoryAccept<L: Drop> {

@@ -9,7 +9,7 @@ use dns_name::OutOfMemory;
 use std::alloc::Global;
 use std::marker::Model;
 
-/// A clock that gives the readings of a list, and then the last of them again and again, or (0, 0) where the list is
+/// A clock that gives the readings of a list, and then the last of them again and again, or (0, 0) if the list is
 /// empty. It tells them as long as it can count them.
 #[derive(Drop)]
 pub struct MemoryClock {

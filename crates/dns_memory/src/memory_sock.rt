@@ -15,7 +15,7 @@ use std::sync::Wait;
 
 /// A socket over vectors, which tells what it received and sent as long as it can count. Receives and sends are counted
 /// apart, and of each the listed calls fail or answer Again; a send for which there is no memory fails too, and a
-/// receive answers Again where no datagram is left.
+/// receive answers Again if no datagram is left.
 #[derive(Drop)]
 pub struct MemorySock {
     alloc: Global,

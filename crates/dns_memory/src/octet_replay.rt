@@ -38,7 +38,7 @@ impl OctetReplay {
     }
 
     /// Reads octets into the front of `buf`, as many as there is room for and `most` at most, and says how many; none
-    /// where nothing is left.
+    /// if nothing is left.
     pub(crate) fn read(&mut self, buf: &mut [u8], most: usize) -> Option<usize>
         ensures { Passes result most buf.new self.old self.new }
     {

@@ -35,7 +35,7 @@ impl PacketReplay {
     }
 
     /// Receives one datagram into the front of `buf`, as much of it as there is room for: how much, and from where; none
-    /// where none is left.
+    /// if none is left.
     pub(crate) fn receive(&mut self, buf: &mut [u8]) -> Option<(usize, SocketAddr)>
         ensures { PacketPasses result buf.new self.old self.new }
     {

@@ -6,7 +6,7 @@ use crate::octet_replay::OctetReplay;
 use dns_io::{Sink, SinkWrite, Source, SourceRead};
 use std::marker::Model;
 
-/// A source over a vector, which tells what is left. No call fails, so its count of faults is 0 for ever.
+/// A source over a vector, which tells what is left. No call fails, so its count of faults is 0 forever.
 #[derive(Drop)]
 pub struct SteadySource {
     octets: OctetReplay,
@@ -53,7 +53,7 @@ impl Source for SteadySource {
     }
 }
 
-/// A sink over a vector. No call fails, so its count of faults is 0 for ever. It tells what was taken as long as there
+/// A sink over a vector. No call fails, so its count of faults is 0 forever. It tells what was taken as long as there
 /// is memory for it: afterwards it takes octets, keeps none and tells nothing.
 #[derive(Drop)]
 pub struct SteadySink {
@@ -80,7 +80,7 @@ impl SteadySink {
         }
     }
 
-    /// The octets taken, where all of them were kept.
+    /// The octets taken, if all of them were kept.
     pub fn written(&self) -> Option<&[u8]>
         ensures whole { IsSome result ↔ IsTrue self.now.whole }
         ensures value { IfSome result (λ t. t.now ≡ self.now.taken) }

@@ -12,8 +12,8 @@ use std::collections::VecDeque;
 use std::marker::Model;
 use std::sync::Wait;
 
-/// Connections over links of any type, in their order. No call fails, so its count of faults is 0 for ever; one answers
-/// Again where no connection is left. It tells who came as long as there is memory for it and it can count the calls
+/// Connections over links of any type, in their order. No call fails, so its count of faults is 0 forever; one answers
+/// Again if no connection is left. It tells who came as long as there is memory for it and it can count the calls
 /// that answered Again: afterwards it gives connections and tells nothing.
 #[derive(Drop)]
 pub struct SteadyAccept<L: Drop> {

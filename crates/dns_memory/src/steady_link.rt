@@ -10,7 +10,7 @@ use dns_io::{Link, LinkRead, LinkWrite};
 use std::marker::Model;
 use std::sync::Wait;
 
-/// A link over vectors. No call fails or answers Again, so its count of faults is 0 for ever. It tells what came and
+/// A link over vectors. No call fails or answers Again, so its count of faults is 0 forever. It tells what came and
 /// went as long as there is memory for it and it can count its ends: afterwards it takes octets and tells nothing.
 #[derive(Drop)]
 pub struct SteadyLink {

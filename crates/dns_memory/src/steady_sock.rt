@@ -12,7 +12,7 @@ use std::alloc::Global;
 use std::marker::Model;
 use std::sync::Wait;
 
-/// A socket over vectors. No call fails, so its counts of faults are 0 for ever; a receive answers Again where no
+/// A socket over vectors. No call fails, so its counts of faults are 0 forever; a receive answers Again if no
 /// datagram is left. It tells what it received and sent as long as there is memory for it and it can count the receives
 /// that answered Again: afterwards it takes datagrams and tells nothing.
 #[derive(Drop)]

@@ -46,7 +46,7 @@ stands_here o at ls e b h k =
     let g : drop at o ≡ question_octets q ++ drop (e + 4) o = p.spelt ∙ (ap (λ x. s ++ x) (m ∙ ap (λ x. x ++ drop (e + 4) o) (sym w)) ∙ sym (append_assoc s (two q.qtype ++ two q.qclass) (drop (e + 4) o))) in
     record { question = q; named = p.name; written = g; ends = omega (arith, p.ends, length-append s (two q.qtype ++ two q.qclass)) }
 
--- so many questions stand behind the header, up to a place
+-- that many questions stand after the header, up to a place
 pub record StandUpTo (o : List ℕ) (count at : ℕ) : Type 0 where
   pub questions : List Question
   pub many : length questions ≡ count

@@ -141,7 +141,7 @@ data_here (Srv p w q a) o limit at l n h k = read_up_to _ _ _ _ (srv_written p w
 data_here (Opt d) o limit at l n h k = rw h (read_up_to _ _ _ _ (opt_written d limit l.0) (omega arith))
 data_here (Unknown t d) o limit at l n h k = rw (l.0, h) (filled_by (Unknown t d) limit limit (omega arith))
 
--- data that stands at a place with anything behind it
+-- data that stands at a place with anything after it
 pub data_written : (d : RecordData) (o more : List ℕ) (at : ℕ) → IsTyped d → drop at o ≡ data_octets d ++ more → at ≤ length o → data_at (data_type d) o (at + length (data_octets d)) at ≡ Ok d
 data_written d o more at i h k =
     let x = data_octets d in

@@ -18,7 +18,7 @@ use Rattle.dns_message.specs.Fixed.{fixed_at, fixed_octets, fixed_of}
 use Rattle.dns_message.specs.Standing.{Standing, data_at, standing_at, record_at}
 use Rattle.dns_message.specs.Sections.{items_from, questions_of, answers_of, authority_of, additional_of, message_of}
 
--- what lies behind octets at a place
+-- what lies after octets at a place
 pub past : (o a more : List ℕ) (at : ℕ) → drop at o ≡ a ++ more → drop (at + length a) o ≡ more
 past o a more at h = sym (drop-drop (length a) at o) ∙ (ap (drop (length a)) h ∙ drop-append_seam a more)
 
@@ -72,7 +72,7 @@ fixed_written f o more at h =
     let e : at + 2 + 2 + 4 + 2 ≡ at + 10 = omega arith in
     rw (a, b, c, d) (ap (λ n. Ok (f, n)) e)
 
--- a record that is written stands there: its data behind its owner and its fixed fields
+-- a record that is written stands there: its data after its owner and its fixed fields
 abbrev pub data_place : ResourceRecord → ℕ → ℕ
 data_place r at = at + length (spell r.owner) + 10
 

@@ -25,7 +25,7 @@ data_parts (Srv p w o n) = (7, p ∷ w ∷ o ∷ [], n ∷ [])
 data_parts (Opt o) = (8, o, [])
 data_parts (Unknown t o) = (9, t ∷ o, [])
 
--- the same variant, the same numbers or octets, the same names
+-- variant, numbers, octets and names are the same
 abbrev pub same_data : RecordData → RecordData → Bool
 same_data a b = ((data_parts a).0 == (data_parts b).0)
     && (pointwise ◌==◌ (data_parts a).1 (data_parts b).1 && pointwise same_name (data_parts a).2 (data_parts b).2)

@@ -17,6 +17,6 @@ fixed_at o at = do
   size ← two_at o ttl.1
   Ok (record { rtype = rtype.0; class = class.0; ttl = ttl.0; size = size.0 }, size.1)
 
--- those of a record
+-- the fixed fields of a record
 abbrev pub fixed_of : ResourceRecord → FixedFields
 fixed_of r = record { rtype = r.rtype; class = r.class; ttl = r.ttl; size = length r.rdata }

@@ -1,4 +1,4 @@
--- Option lists, the data of an OPT record (RFC 6891, section 6.1.2): code, length and data of each option, one behind another.
+-- Option lists, the data of an OPT record (RFC 6891, section 6.1.2): code, length and data of each option, one after another.
 use Rattle.std.specs.Prelude.{◌≡◌, ℕ, zero, suc, ◌/◌, ◌%◌, true, List, [], ◌∷◌, length, take, drop, Option, Some, None, Result, Ok, Err, option_map, is_some, nat_lt, nat_le, if◌then◌else◌}
 use Rattle.dns_name.specs.declared.error.ParseError.{ParseError}
 use Rattle.dns_name.specs.declared.error.ParseError.TheVariants.{ShortInput, Form}
@@ -16,7 +16,7 @@ first_option (a ∷ b ∷ []) = None
 first_option (a ∷ b ∷ c ∷ []) = None
 first_option (a ∷ b ∷ c ∷ e ∷ d) = split_at (be16 a b) (be16 c e) d
 
--- the options, where the octets are such a list; each takes four octets, so their length is fuel enough
+-- the options, if the octets are such a list; each takes four octets, so their length is fuel enough
 abbrev pub with_first : (List ℕ → Option (List (ℕ × List ℕ))) → Option (ℕ × List ℕ × List ℕ) → Option (List (ℕ × List ℕ))
 with_first f None = None
 with_first f (Some p) = option_map (λ ps. (p.0, p.1) ∷ ps) (f p.2)

@@ -13,7 +13,7 @@ pub record QuestionStands (o : List ℕ) (at end : ℕ) : Type 0 where
   pub written : drop at o ≡ question_octets question ++ drop end o
   pub ends : end ≡ at + length (question_octets question)
 
--- all questions that the header counts are readable, and stand behind it as they are written, up to an end
+-- all questions that the header counts are readable, and stand after it as they are written, up to an end
 pub record QuestionsStand (o : List ℕ) (end : ℕ) : Type 0 where
   pub many : length (questions_of o).0 ≡ field 4 o
   pub named : AllByRecursion HasName (questions_of o).0

@@ -1,4 +1,4 @@
--- Numbers, octets and questions at a place of a message (RFC 1035, section 4.1.2): each is read as a value and the place behind it.
+-- Numbers, octets and questions at a place of a message (RFC 1035, section 4.1.2): each is read as a value and the place after it.
 use Rattle.std.specs.Prelude.{ℕ, ◌≡◌, ◌+◌, ◌*◌, List, [], ◌∷◌, length, take, drop, nat_lt, if◌then◌else◌, Result, Ok, Err}
 use Rattle.std.specs.Borrow.{Bor}
 use Rattle.dns_name.specs.declared.error.ParseError.{ParseError}
@@ -7,7 +7,7 @@ use Rattle.dns_name.specs.Place.{Read, be16}
 use Rattle.dns_name.specs.Names.{name_at}
 use Rattle.dns_message.specs.declared.question.Question.{Question}
 
--- what is read behind what is read
+-- what is read after what is read
 infixl 10 ◌>>=◌
 abbrev pub ◌>>=◌ : {A B : Type 0} → Read A → (A × ℕ → Read B) → Read B
 (Ok x) >>= f = f x
@@ -29,7 +29,7 @@ four_at o at = do
   low ← two_at o high.1
   Ok (65536 * high.0 + low.0, low.1)
 
--- so many octets
+-- that many octets
 unfoldable pub octets_at : ℕ → List ℕ → ℕ → Read (List ℕ)
 octets_at n o at = if nat_lt (length (drop at o)) n then Err ShortInput else Ok (take n (drop at o), at + n)
 

@@ -86,7 +86,7 @@ IsLawful (Srv p w o n) = Unit {0}
 IsLawful (Opt o) = IsOptionList o × (length o ≤ 65535)
 IsLawful (Unknown t o) = (shape_of t ≡ Other) × (length o ≤ 65535)
 
--- data of a type without a shape, none for other types and where the octets are too many
+-- data of a type without a shape, none for other types and if the octets are too many
 abbrev pub unknown_data : ℕ → List ℕ → Option RecordData
 unknown_data t o = if nat_lt 65535 (length o) then None else (if is_other (shape_of t) then Some (Unknown t o) else None)
 
@@ -94,7 +94,7 @@ unknown_data t o = if nat_lt 65535 (length o) then None else (if is_other (shape
 abbrev pub named_data : ℕ → List (List ℕ) → Option RecordData
 named_data t n = if is_name_alone (shape_of t) then Some (Named t n) else None
 
--- the data of an OPT record, none where the octets are no option list or too many
+-- the data of an OPT record, none if the octets are no option list or too many
 abbrev pub opt_data : List ℕ → Option RecordData
 opt_data o = if nat_lt 65535 (length o) then None else (if is_some (options o) then Some (Opt o) else None)
 

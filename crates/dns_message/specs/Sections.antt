@@ -9,7 +9,7 @@ use Rattle.dns_message.specs.Msg.{Msg, ResourceRecord}
 use Rattle.dns_message.specs.Read.{question_at}
 use Rattle.dns_message.specs.Standing.{Standing, standing_at, record_at}
 
--- items, and the place behind them or the refusal of the item behind them
+-- items, and the place after them or the refusal of the item after them
 abbrev pub Items : Type 0 → Type 0
 Items A = List A × Result ℕ ParseError
 
@@ -17,12 +17,12 @@ abbrev pub by_item : {A : Type 0} → (ℕ → Items A) → Read A → Items A
 by_item go (Ok (x, end)) = (x ∷ (go end).0, (go end).1)
 by_item go (Err e) = ([], Err e)
 
--- so many items from a place, where one reads an item
+-- that many items from a place, if one reads an item
 abbrev pub items_from : {A : Type 0} → (ℕ → Read A) → ℕ → ℕ → Items A
 items_from one zero at = ([], Ok at)
 items_from one (suc k) at = by_item (items_from one k) (one at)
 
--- a section behind another, which isn't reached where the other isn't readable
+-- a section after another, which isn't reached if the other isn't readable
 abbrev pub items_behind : {A : Type 0} → (ℕ → Read A) → ℕ → Result ℕ ParseError → Items A
 items_behind one n (Ok at) = items_from one n at
 items_behind one n (Err e) = ([], Err e)
@@ -53,7 +53,7 @@ authority_of o = items_behind (record_at o) (field 8 o) (answers_of o).1
 unfoldable pub additional_of : List ℕ → Items ResourceRecord
 additional_of o = items_behind (record_at o) (field 10 o) (authority_of o).1
 
--- the same sections with each record as it stands in the message
+-- the sections with each record as it stands in the message
 abbrev pub standing_answers : List ℕ → Items Standing
 standing_answers o = items_behind (standing_at o) (field 6 o) (questions_of o).1
 
@@ -73,7 +73,7 @@ message_of o = record {
   additional = (additional_of o).0;
 }
 
--- the same records, each as it stands or with its data as octets, and the same end
+-- records that are the same, each as it stands or with its data as octets, and one end
 pub record SameRecords (i : Items Standing) (j : Items ResourceRecord) : Type 0 where
   pub items : map (λ (s : Standing). s.resource) i.0 ≡ j.0
   pub end : i.1 ≡ j.1
@@ -83,7 +83,7 @@ abbrev pub all_of : {A : Type 0} → Items A → List (Result A ParseError)
 all_of (xs, Ok end) = map Ok xs
 all_of (xs, Err e) = map Ok xs ++ Err e ∷ []
 
--- what a section gives where it is reached, else the refusal of the section before it
+-- what a section gives if it is reached, else the refusal of the section before it
 abbrev pub reached : {A : Type 0} → Result ℕ ParseError → Items A → Result (List (Result A ParseError)) ParseError
 reached (Ok at) items = Ok (all_of items)
 reached (Err e) items = Err e
@@ -93,7 +93,7 @@ abbrev pub FourSections : Type 0
 FourSections = List (Result Question ParseError) × List (Result Standing ParseError) × List (Result Standing ParseError)
     × List (Result Standing ParseError)
 
--- the four sections where the last one is reached, else the refusal of the section before it
+-- the four sections if the last one is reached, else the refusal of the section before it
 abbrev pub sections_by : List ℕ → Result ℕ ParseError → Result FourSections ParseError
 sections_by o (Ok at) = Ok (
   all_of (questions_of o),
@@ -107,12 +107,12 @@ sections_by o (Err e) = Err e
 abbrev pub sections_of : List ℕ → Result FourSections ParseError
 sections_of o = sections_by o (authority_of o).1
 
--- the first item where there is a readable one
+-- the first item if there is a readable one
 abbrev pub first_of : {A : Type 0} → List A → Option A
 first_of [] = None
 first_of (x ∷ xs) = Some x
 
--- what an iterator over so many items from a place on gives, and where they end
+-- what an iterator over that many items from a place on gives, and where they end
 abbrev pub to_come : {A : Type 0} → (ℕ → Read A) → ℕ → ℕ → List (Result A ParseError)
 to_come one k at = all_of (items_from one k at)
 

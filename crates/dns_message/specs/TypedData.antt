@@ -1,4 +1,4 @@
--- Records with typed data, and what reading gives for them where they are written (RFC 1035, sections 3.2.1 and 4.1.3).
+-- Records with typed data, and what reading gives for them if they are written (RFC 1035, sections 3.2.1 and 4.1.3).
 use Rattle.std.specs.Prelude.{◌≡◌, List, Result, Ok, Err}
 use Rattle.std.specs.List.{AllZip}
 use Rattle.dns_name.specs.declared.error.ParseError.{ParseError}
@@ -27,7 +27,7 @@ pub record IsTyped (d : RecordData) : Type 0 where
   pub lawful : IsLawful d
   pub names : HasNames d
 
--- What stands for a record in a message is that record. Where the record was written from typed data, it is read as exactly that.
+-- What stands for a record in a message is that record. If the record was written from typed data, it is read as exactly that.
 abbrev pub StandsFor : ResourceRecord → Standing → Type 0
 StandsFor x s = (s.resource ≡ x) × ((r : Record) → IsTyped r.rdata → record_of r ≡ x → typed s ≡ Ok r)
 

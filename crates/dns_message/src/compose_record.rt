@@ -27,7 +27,7 @@ pub trait ComposeRecord {
         ensures named { HasOwner (resource self.now) }
         ensures short { result ≤ 65800 };
 
-    /// Appends the record's octets; nothing where there is no memory.
+    /// Appends the record's octets; nothing if there is no memory.
     fn compose_record(&self, alloc: Global, target: &mut Vec<u8>) -> Result<(), OutOfMemory>
         requires { is_lawful self.now }
         ensures ok { OnOk result (target.new.items ≡ target.old.items ++ record_octets (resource self.now)) }

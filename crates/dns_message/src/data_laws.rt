@@ -21,7 +21,7 @@ pub fn typed_records_read_back()
         → ReadsBack m.additional (reached (authority_of (wire m)).1 (standing_additional (wire m))) }
 {}
 
-/// Typed data that stands in octets is read back there, whatever stands before and behind it.
+/// Typed data that stands in octets is read back there, whatever stands before and after it.
 pub fn typed_data_reads_back()
     ensures { (d : RecordData) (before behind : List ℕ) → IsTyped d
         → data_at (data_type d) (before ++ (data_octets d ++ behind)) (length before + length (data_octets d)) (length before) ≡ Ok d }

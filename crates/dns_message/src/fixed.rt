@@ -17,7 +17,7 @@ pub(crate) struct FixedFields {
     pub(crate) size: u16,
 }
 
-/// The fields at a place, and the place behind them.
+/// The fields at a place, and the place after them.
 #[tactic(auto, unfolding(crate::specs::Fixed::fixed_at))]
 pub(crate) fn fixed_in(message: &[u8], at: usize) -> Result<(FixedFields, usize), ParseError>
     requires { at ≤ length message.now }

@@ -334,7 +334,7 @@ fn lower_of(header: &Header) -> u8
         + rcode
 }
 
-/// The number of two octets at a place of a message, high octet first; 0 where fewer than two stand there. The counts
+/// The number of two octets at a place of a message, high octet first; 0 if fewer than two stand there. The counts
 /// of a header stand at the places 4, 6, 8 and 10 (RFC 1035, section 4.1.1).
 pub fn number_at(octets: &[u8], at: usize) -> u16
     requires { at ≤ length octets.now }

@@ -119,35 +119,35 @@ impl Message {
         self.for_ref().question()
     }
 
-    /// The answer records, refused where a question is unreadable.
+    /// The answer records, refused if a question is unreadable.
     pub fn answer(&self) -> Result<RecordIter<'_>, ParseError>
         ensures { result ≡ reached (questions_of self.now).1 (standing_answers self.now) }
     {
         self.for_ref().answer()
     }
 
-    /// The authority records, refused where an earlier section is unreadable.
+    /// The authority records, refused if an earlier section is unreadable.
     pub fn authority(&self) -> Result<RecordIter<'_>, ParseError>
         ensures { result ≡ reached (answers_of self.now).1 (standing_authority self.now) }
     {
         self.for_ref().authority()
     }
 
-    /// The additional records, refused where an earlier section is unreadable.
+    /// The additional records, refused if an earlier section is unreadable.
     pub fn additional(&self) -> Result<RecordIter<'_>, ParseError>
         ensures { result ≡ reached (authority_of self.now).1 (standing_additional self.now) }
     {
         self.for_ref().additional()
     }
 
-    /// All four sections at once, refused where a section before the last is unreadable.
+    /// All four sections at once, refused if a section before the last is unreadable.
     pub fn sections(&self) -> Result<Sections<'_>, ParseError>
         ensures { result ≡ sections_of self.now }
     {
         self.for_ref().sections()
     }
 
-    /// The first question, none where there is none or it is unreadable.
+    /// The first question, none if there is none or it is unreadable.
     pub fn first_question(&self) -> Option<QuestionRef<'_>>
         ensures { result ≡ first_of (questions_of self.now).0 }
     {
@@ -221,7 +221,7 @@ impl<'a> MessageRef<'a> {
         questions(self.octets)
     }
 
-    /// The answer records up to the first unreadable one, and then its refusal; refused where a question is
+    /// The answer records up to the first unreadable one, and then its refusal; refused if a question is
     /// unreadable.
     pub fn answer(&self) -> Result<RecordIter<'a>, ParseError>
         ensures { result ≡ reached (questions_of self.now).1 (standing_answers self.now) }
@@ -230,7 +230,7 @@ impl<'a> MessageRef<'a> {
         Ok(answers_from(self.octets, at))
     }
 
-    /// The authority records up to the first unreadable one, and then its refusal; refused where an earlier
+    /// The authority records up to the first unreadable one, and then its refusal; refused if an earlier
     /// section is unreadable.
     pub fn authority(&self) -> Result<RecordIter<'a>, ParseError>
         ensures { result ≡ reached (answers_of self.now).1 (standing_authority self.now) }
@@ -239,7 +239,7 @@ impl<'a> MessageRef<'a> {
         Ok(authority_from(self.octets, at))
     }
 
-    /// The additional records up to the first unreadable one, and then its refusal; refused where an earlier
+    /// The additional records up to the first unreadable one, and then its refusal; refused if an earlier
     /// section is unreadable.
     pub fn additional(&self) -> Result<RecordIter<'a>, ParseError>
         ensures { result ≡ reached (authority_of self.now).1 (standing_additional self.now) }
@@ -248,7 +248,7 @@ impl<'a> MessageRef<'a> {
         Ok(additional_from(self.octets, at))
     }
 
-    /// All four sections, as `question`, `answer`, `authority` and `additional` give them; refused where a section
+    /// All four sections, as `question`, `answer`, `authority` and `additional` give them; refused if a section
     /// before the last is unreadable. The first three are passed over once, to find where the next begins (RFC 1035,
     /// section 4.1).
     #[tactic(auto, unfolding(crate::specs::Sections::answers_of, crate::specs::Sections::authority_of))]
@@ -266,7 +266,7 @@ impl<'a> MessageRef<'a> {
         ))
     }
 
-    /// The first question, none where there is none or it is unreadable.
+    /// The first question, none if there is none or it is unreadable.
     #[tactic(auto, using(crate::proofs::Coming::first_here, crate::proofs::Coming::first_refused, crate::proofs::Coming::first_none))]
     pub fn first_question(&self) -> Option<QuestionRef<'a>>
         ensures { result ≡ first_of (questions_of self.now).0 }
@@ -287,7 +287,7 @@ pub(crate) fn questions(message: &[u8]) -> QuestionIter<'_>
     QuestionIter::of(message, 12, number_at(message, 4))
 }
 
-/// The place behind the questions, in octets from the message's start (RFC 1035, section 4.1.2), or the refusal of
+/// The place after the questions, in octets from the message's start (RFC 1035, section 4.1.2), or the refusal of
 /// the first unreadable one.
 #[tactic(auto, using(crate::proofs::Coming::all_ended), unfolding(crate::specs::Sections::questions_of))]
 fn end_of_questions(message: &[u8]) -> Result<usize, ParseError>
@@ -309,7 +309,7 @@ fn answers_from(message: &[u8], at: usize) -> RecordIter<'_>
     RecordIter::of(message, at, number_at(message, 6))
 }
 
-/// The place behind the answer records, which begin at a place.
+/// The place after the answer records, which begin at a place.
 #[tactic(auto, using(crate::proofs::Coming::behind_ended), unfolding(crate::specs::Sections::answers_of))]
 fn behind_answers(message: &[u8], at: usize) -> Result<usize, ParseError>
     requires header { 12 ≤ length message.now }
@@ -321,7 +321,7 @@ fn behind_answers(message: &[u8], at: usize) -> Result<usize, ParseError>
     records_end(message, at, number_at(message, 6))
 }
 
-/// The place behind the answer records, in octets from the message's start (RFC 1035, section 4.1.3), or the
+/// The place after the answer records, in octets from the message's start (RFC 1035, section 4.1.3), or the
 /// refusal of the first unreadable question or record before it.
 #[tactic(auto, unfolding(crate::specs::Sections::answers_of))]
 fn end_of_answers(message: &[u8]) -> Result<usize, ParseError>
@@ -344,7 +344,7 @@ fn authority_from(message: &[u8], at: usize) -> RecordIter<'_>
     RecordIter::of(message, at, number_at(message, 8))
 }
 
-/// The place behind the authority records, which begin at a place.
+/// The place after the authority records, which begin at a place.
 #[tactic(auto, using(crate::proofs::Coming::behind_ended), unfolding(crate::specs::Sections::authority_of))]
 fn behind_authority(message: &[u8], at: usize) -> Result<usize, ParseError>
     requires header { 12 ≤ length message.now }
@@ -356,7 +356,7 @@ fn behind_authority(message: &[u8], at: usize) -> Result<usize, ParseError>
     records_end(message, at, number_at(message, 8))
 }
 
-/// The place behind the authority records, in octets from the message's start (RFC 1035, section 4.1.3), or the
+/// The place after the authority records, in octets from the message's start (RFC 1035, section 4.1.3), or the
 /// refusal of the first unreadable question or record before it.
 #[tactic(auto, unfolding(crate::specs::Sections::authority_of))]
 fn end_of_authority(message: &[u8]) -> Result<usize, ParseError>

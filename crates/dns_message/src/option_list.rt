@@ -3,7 +3,7 @@
 ghost use Rattle.std.specs.Prelude.{◌≡◌, ◌<◌, length, MatchOption, Some, None, is_some};
 ghost use Rattle.dns_message.specs.Options.{first_option, options};
 
-/// The first option of a list (RFC 6891, section 6.1.2): its code, its data and what follows it; none where the
+/// The first option of a list (RFC 6891, section 6.1.2): its code, its data and what follows it; none if the
 /// octets don't begin with a whole option.
 pub fn first_option(octets: &[u8]) -> Option<(u16, &[u8], &[u8])>
     ensures { MatchOption result (first_option octets.now ≡ None)

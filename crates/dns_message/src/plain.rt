@@ -6,7 +6,7 @@ ghost use Rattle.dns_message.specs.Plain.{QuestionStands, QuestionsStand};
 use crate::header::number_at;
 use dns_name::NameRef;
 
-/// The place behind a question whose name is uncompressed.
+/// The place after a question whose name is uncompressed.
 fn plain_question(octets: &[u8], at: usize) -> Option<usize>
     requires { at ≤ length octets.now }
     ensures stands { MatchOption result ((end : ℕ) → QuestionStands octets.now at end → ⊥) (λ end. QuestionStands octets.now at end) }
@@ -18,7 +18,7 @@ fn plain_question(octets: &[u8], at: usize) -> Option<usize>
     }
 }
 
-/// The place behind the questions of a message, where each is readable and its name is uncompressed.
+/// The place after the questions of a message, if each is readable and its name is uncompressed.
 pub fn plain_questions(octets: &[u8]) -> Option<usize>
     requires { 12 ≤ length octets.now }
     ensures stand { MatchOption result ((end : ℕ) → QuestionsStand octets.now end → ⊥) (λ end. QuestionsStand octets.now end) }

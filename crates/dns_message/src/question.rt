@@ -16,7 +16,7 @@ use dns_name::{Class, Name, OutOfMemory, ParseError, ParsedName, Rtype};
 use std::alloc::{AllocError, Global};
 use std::marker::Model;
 
-/// A question (RFC 1035, section 4.1.2). Questions are equal where their names are up to ASCII case, their types and
+/// A question (RFC 1035, section 4.1.2). Questions are equal if their names are up to ASCII case, their types and
 /// their classes.
 #[derive(Debug, Drop)]
 pub struct Question {
@@ -38,7 +38,7 @@ pub trait ComposeQuestion {
         ensures value { result ≡ length (question_octets (asked self.now)) }
         ensures named { HasName (asked self.now) };
 
-    /// Appends the question's octets, its name uncompressed; nothing where there is no memory.
+    /// Appends the question's octets, its name uncompressed; nothing if there is no memory.
     fn compose_question(&self, alloc: Global, target: &mut Vec<u8>) -> Result<(), OutOfMemory>
         ensures ok { OnOk result (target.new.items ≡ target.old.items ++ question_octets (asked self.now)) }
         ensures err { OnErr result (target.new.items ≡ target.old.items) };
@@ -185,7 +185,7 @@ impl<'a> ComposeQuestion for QuestionRef<'a> {
     }
 }
 
-/// The question at a place of a message, in octets from its start, and the place behind it (RFC 1035, section 4.1.2).
+/// The question at a place of a message, in octets from its start, and the place after it (RFC 1035, section 4.1.2).
 #[tactic(auto, unfolding(crate::specs::Read::question_at))]
 pub fn question_in<'a>(message: &'a [u8], at: usize) -> Result<(QuestionRef<'a>, usize), ParseError>
     requires { at ≤ length message.now }
@@ -275,7 +275,7 @@ impl<'a> Iterator for QuestionIter<'a> {
     }
 }
 
-/// The place behind so many questions from a place on.
+/// The place after that many questions from a place on.
 #[tactic(auto, using(crate::proofs::Coming::ending))]
 pub(crate) fn questions_end(message: &[u8], start: usize, count: u16) -> Result<usize, ParseError>
     requires { start ≤ length message.now }

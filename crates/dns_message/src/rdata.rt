@@ -36,7 +36,7 @@ pub(crate) enum Shape {
     Other,
 }
 
-/// The data of a record, by the shape of its type. Data is equal where it is the same variant, with the same numbers
+/// The data of a record, by the shape of its type. Data is equal if it is the same variant, with the same numbers
 /// or octets, and with the same names up to ASCII case.
 #[derive(Drop)]
 pub enum RecordData {
@@ -127,7 +127,7 @@ impl RecordData {
         Some(RecordData::Named { rtype, name })
     }
 
-    /// The data of an OPT record; none where the octets are no option list, or above 65,535 octets.
+    /// The data of an OPT record; none if the octets are no option list, or above 65,535 octets.
     pub fn opt(octets: Vec<u8>) -> Option<RecordData>
         ensures value { result ≡ opt_data octets.items }
         ensures lawful { IfSome result IsLawful }

@@ -8,7 +8,7 @@ use crate::rdata::RecordData;
 use dns_name::{Name, Octets, OutOfMemory, Rtype};
 use std::alloc::Global;
 
-/// Data that is copied, or want of memory.
+/// Data that is copied, or out of memory.
 type CopiedData = Result<RecordData, OutOfMemory>;
 
 impl RecordData {

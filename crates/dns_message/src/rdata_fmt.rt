@@ -70,7 +70,7 @@ fn show_named<W: fmt::Write>(f: &mut fmt::Formatter<W>, rtype: &Rtype, name: &Na
         .finish()
 }
 
-/// The times of a zone's start behind its other fields.
+/// The times of a zone's start after its other fields.
 fn show_times<W: fmt::Write>(
     mut shown: fmt::DebugStruct<'_, W>,
     numbers: ZoneNumbers,

@@ -30,7 +30,7 @@ impl<'a> Window<'a> {
     }
 }
 
-/// Data that is read, and the place behind it.
+/// Data that is read, and the place after it.
 type FoundData = Result<(RecordData, usize), ParseError>;
 
 /// The data of a type from a place up to a limit.
@@ -94,7 +94,7 @@ fn shaped(alloc: Global, window: Window<'_>, rtype: Rtype, at: usize) -> FoundDa
     }
 }
 
-/// A name, and the place behind it.
+/// A name, and the place after it.
 fn name_in(alloc: Global, window: Window<'_>, at: usize) -> Result<(Name, usize), ParseError>
     requires { at ≤ window.limit }
     ensures value { GivesParsed result (name_within window.entry.message.now window.entry.limit at) }
@@ -105,7 +105,7 @@ fn name_in(alloc: Global, window: Window<'_>, at: usize) -> Result<(Name, usize)
     Ok((name, end))
 }
 
-/// Two names, and the place behind them.
+/// Two names, and the place after them.
 #[tactic(auto, unfolding(crate::specs::Standing::names_at))]
 fn names_in(
     alloc: Global,
@@ -121,7 +121,7 @@ fn names_in(
     Ok(((first, second), at))
 }
 
-/// A number and a name, and the place behind them.
+/// A number and a name, and the place after them.
 #[tactic(auto, unfolding(crate::specs::Standing::numbered_at))]
 fn numbered_in(
     alloc: Global,

@@ -5,7 +5,7 @@ ghost use Rattle.dns_message.specs.Read.{two_of, two_at, four_at, octets_at, See
 
 use dns_name::{ParseError, Ttl};
 
-/// A number of two octets, and the place behind it.
+/// A number of two octets, and the place after it.
 #[tactic(auto, unfolding(crate::specs::Read::two_at))]
 pub(crate) fn two_in(message: &[u8], at: usize) -> Result<(u16, usize), ParseError>
     requires { at ≤ length message.now }
@@ -27,7 +27,7 @@ fn number_of(octets: &[u8], at: usize) -> Result<(u16, usize), ParseError>
     Ok((256 * (*a as u16) + (*b as u16), at + 2))
 }
 
-/// A number of four octets, and the place behind it.
+/// A number of four octets, and the place after it.
 #[tactic(auto, unfolding(crate::specs::Read::four_at))]
 pub(crate) fn four_in(message: &[u8], at: usize) -> Result<(u32, usize), ParseError>
     requires { at ≤ length message.now }
@@ -39,7 +39,7 @@ pub(crate) fn four_in(message: &[u8], at: usize) -> Result<(u32, usize), ParseEr
     Ok((65536 * (high as u32) + (low as u32), at))
 }
 
-/// A TTL, and the place behind it.
+/// A TTL, and the place after it.
 pub(crate) fn ttl_in(message: &[u8], at: usize) -> Result<(Ttl, usize), ParseError>
     requires { at ≤ length message.now }
     ensures value { result ≡ four_at message.now at }

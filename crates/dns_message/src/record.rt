@@ -20,7 +20,7 @@ use dns_name::{Class, Name, OutOfMemory, ParseError, ParsedName, Rtype, Ttl};
 use std::alloc::{AllocError, Global};
 use std::marker::Model;
 
-/// A record (RFC 1035, section 3.2.1), whose type is that of its data. Records are equal where their owners are up
+/// A record (RFC 1035, section 3.2.1), whose type is that of its data. Records are equal if their owners are up
 /// to ASCII case, their classes and their data: the TTL doesn't count (RFC 2136, section 1.1.1).
 #[derive(Debug, Drop)]
 pub struct Record {
@@ -74,7 +74,7 @@ impl Record {
         self.owner.as_slice().len() + 10 + self.rdata.size()
     }
 
-    /// Appends the record's octets, names uncompressed (RFC 1035, section 3.2.1); nothing where there is no memory.
+    /// Appends the record's octets, names uncompressed (RFC 1035, section 3.2.1); nothing if there is no memory.
     pub fn compose(&self, alloc: Global, target: &mut Vec<u8>) -> Result<(), OutOfMemory>
         requires { IsLawful self.now.rdata }
         ensures ok { OnOk result (target.new.items ≡ target.old.items ++ record_octets (record_of self.now)) }
@@ -215,7 +215,7 @@ impl<'a> RecordRef<'a> {
     }
 }
 
-/// The record at a place of a message, in octets from its start, and the place behind it (RFC 1035, section 4.1.3).
+/// The record at a place of a message, in octets from its start, and the place after it (RFC 1035, section 4.1.3).
 #[tactic(auto, unfolding(crate::specs::Standing::standing_at))]
 pub fn record_in<'a>(message: &'a [u8], at: usize) -> Result<(RecordRef<'a>, usize), ParseError>
     requires { at ≤ length message.now }
@@ -309,7 +309,7 @@ impl<'a> Iterator for RecordIter<'a> {
     }
 }
 
-/// The place behind so many records from a place on.
+/// The place after that many records from a place on.
 #[tactic(auto, using(crate::proofs::Coming::ending))]
 pub(crate) fn records_end(message: &[u8], start: usize, count: u16) -> Result<usize, ParseError>
     requires { start ≤ length message.now }

@@ -66,7 +66,7 @@ pub(crate) fn push_labels(target: &mut Vec<u8>, mut labels: Labels<'_>) -> Resul
     push_octets(target, &[0])
 }
 
-/// Cuts off what a refused write left behind so many octets.
+/// Cuts off what a refused write left after that many octets.
 pub(crate) fn settle(
     target: &mut Vec<u8>,
     start: usize,

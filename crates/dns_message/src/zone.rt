@@ -18,7 +18,7 @@ pub(crate) struct ZoneNumbers {
     pub(crate) minimum: Ttl,
 }
 
-/// Two TTLs at a place, and the place behind them.
+/// Two TTLs at a place, and the place after them.
 #[tactic(auto, unfolding(crate::specs::Zone::ttls_at))]
 fn ttls_in(message: &[u8], at: usize) -> Result<((Ttl, Ttl), usize), ParseError>
     requires { at ≤ length message.now }
@@ -30,7 +30,7 @@ fn ttls_in(message: &[u8], at: usize) -> Result<((Ttl, Ttl), usize), ParseError>
     Ok(((first, second), at))
 }
 
-/// The numbers at a place, and the place behind them.
+/// The numbers at a place, and the place after them.
 #[tactic(auto, unfolding(crate::specs::Zone::zone_at))]
 pub(crate) fn zone_in(message: &[u8], at: usize) -> Result<(ZoneNumbers, usize), ParseError>
     requires { at ≤ length message.now }

@@ -27,7 +27,7 @@ type_name t = code_text Rtypes t
 
 -- ---- the header
 
--- the name of a flag that is set, behind a space
+-- the name of a flag that is set, after a space
 abbrev pub flag : Bool → List ℕ → List ℕ
 flag b name = if b then 32 ∷ name else []
 
@@ -36,7 +36,7 @@ flags_text h = flag h.qr (codes "qr") ++ (flag h.aa (codes "aa")
     ++ (flag h.tc (codes "tc") ++ (flag h.rd (codes "rd")
     ++ (flag h.ra (codes "ra") ++ (flag h.ad (codes "ad") ++ flag h.cd (codes "cd"))))))
 
--- a word behind what it is
+-- a word after what it is
 unfoldable pub labelled : List ℕ → List ℕ → List ℕ
 labelled label word = label ++ word
 

@@ -39,7 +39,7 @@ fn push_type(alloc: Global, target: &mut Vec<u8>, rtype: Rtype) -> Result<(), Ou
     push(target, text.as_bytes())
 }
 
-/// Appends a word behind what it is.
+/// Appends a word after what it is.
 #[tactic(auto, unfolding(crate::specs::MessageText::labelled), using(crate::proofs::Appended::regrouped))]
 fn push_labelled(target: &mut Vec<u8>, label: &[u8], word: &[u8]) -> Result<(), OutOfMemory>
     ensures { OnOk result (target.new.items ≡ target.old.items ++ labelled label.now word.now) }
@@ -48,7 +48,7 @@ fn push_labelled(target: &mut Vec<u8>, label: &[u8], word: &[u8]) -> Result<(), 
     push(target, word)
 }
 
-/// Appends an opcode behind what it is.
+/// Appends an opcode after what it is.
 #[tactic(auto, unfolding(crate::specs::MessageText::labelled), using(crate::proofs::Appended::regrouped))]
 fn push_labelled_opcode(
     alloc: Global,
@@ -62,7 +62,7 @@ fn push_labelled_opcode(
     push_opcode(alloc, target, opcode)
 }
 
-/// Appends a response code behind what it is.
+/// Appends a response code after what it is.
 #[tactic(auto, unfolding(crate::specs::MessageText::labelled), using(crate::proofs::Appended::regrouped))]
 fn push_labelled_rcode(
     alloc: Global,
@@ -76,7 +76,7 @@ fn push_labelled_rcode(
     push_rcode(alloc, target, rcode)
 }
 
-/// Appends a number behind what it is.
+/// Appends a number after what it is.
 #[tactic(auto, unfolding(crate::specs::MessageText::labelled), using(crate::proofs::Appended::regrouped))]
 fn push_labelled_number(target: &mut Vec<u8>, label: &[u8], number: u16) -> Result<(), OutOfMemory>
     ensures { OnOk result (target.new.items ≡ target.old.items ++ labelled label.now (decimal number)) }
@@ -110,7 +110,7 @@ fn push_codes(alloc: Global, target: &mut Vec<u8>, header: &Header) -> Result<()
     push(target, b"\n")
 }
 
-/// Appends the name of a flag that is set, behind a space.
+/// Appends the name of a flag that is set, after a space.
 #[tactic(auto, using(crate::proofs::Appended::regrouped))]
 fn push_flag(target: &mut Vec<u8>, is_set: bool, name: &[u8]) -> Result<(), OutOfMemory>
     ensures { OnOk result (target.new.items ≡ target.old.items ++ flag is_set name.now) }

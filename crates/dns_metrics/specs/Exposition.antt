@@ -25,7 +25,7 @@ label_text l = string_bytes l.name ++ (61 ∷ 34 ∷ (escaped_text true (string_
 abbrev pub behind_comma : Label → List ℕ
 behind_comma l = 44 ∷ label_text l
 
--- {LABEL,LABEL}, or nothing where there is none
+-- {LABEL,LABEL}, or nothing if there is none
 abbrev pub labels_text : List Label → List ℕ
 labels_text [] = []
 labels_text (l ∷ ls) = 123 ∷ (label_text l ++ (flat_map behind_comma ls ++ 125 ∷ []))

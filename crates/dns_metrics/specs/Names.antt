@@ -7,7 +7,7 @@ use Rattle.std.specs.Int.{is_in_range}
 abbrev pub is_word_octet : ℕ → Bool
 is_word_octet c = is_in_range 48 57 c || (is_in_range 65 90 c || (is_in_range 97 122 c || nat_eq c 95))
 
--- those, and in the name of a metric a colon
+-- [a-zA-Z0-9_], and in the name of a metric a colon
 abbrev pub is_name_octet : Bool → ℕ → Bool
 is_name_octet colon c = is_word_octet c || (nat_eq c 58 && colon)
 

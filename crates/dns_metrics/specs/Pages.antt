@@ -47,7 +47,7 @@ pub record HasStatus (code : ℕ) (old new : Response) : Type 0 where
   pub headers : fields_of new ≡ fields_of old
   pub body : new.body.items ≡ old.body.items
 
--- it goes on by the text of families; where they can't be had, it is 500 (RFC 9110, section 15.6.1)
+-- it goes on by the text of families; if they can't be had, it is 500 (RFC 9110, section 15.6.1)
 abbrev pub IsGiven : Response → Response → Type 0
 IsGiven old new = ((families : List Family) × Extends text_format (exposition_text families) old new) ⊎ HasStatus 500 old new
 

@@ -177,12 +177,12 @@ impl Endpoint {
         })
     }
 
-    /// Where it listens: the port is the one that the system picked, where none was said.
+    /// Where it listens: the port is the one that the system picked, if none was said.
     pub fn address(&self) -> SocketAddr {
         self.address
     }
 
-    /// Ends the thread, which is waited for, and closes all its sockets. Fails where the thread can't be told, or had failed before.
+    /// Ends the thread, which is waited for, and closes all its sockets. Fails if the thread can't be told, or had failed before.
     pub fn shutdown<T: Threads>(self, rt: &T) -> io::Result<()> {
         let Endpoint { waker, thread, .. } = self;
         waker.wake()?;

@@ -7,7 +7,7 @@ use crate::error::MetricError;
 use crate::names::{is_label_name, is_metric_name};
 use std::alloc::{AllocError, Global};
 
-/// What a metric is: a number that only grows, but for a new start; or one that may fall too.
+/// What a metric is: a number that only grows, except for a new start; or one that may fall too.
 #[derive(Clone, Copy)]
 pub enum MetricKind {
     Counter,
@@ -83,7 +83,7 @@ impl Family {
         })
     }
 
-    /// Adds a sample behind the others.
+    /// Adds a sample after the others.
     pub fn add(&mut self, labels: Vec<Label>, value: u64) -> Result<(), AllocError>
         ensures added { OnOk result (self.new.samples.items ≡ self.old.samples.items ++ (record { labels = labels; value = value }) ∷ []) }
         ensures kept { OnErr result (self.new.samples.items ≡ self.old.samples.items) }

@@ -19,7 +19,7 @@
 //! # What is proved
 //!
 //! - The text is that of its families in the definition `Exposition`, octet for octet.
-//! - Each name is allowed, and a name is refused only where it isn't.
+//! - Each name is allowed, and a name is refused only if it isn't.
 //! - A request is answered as its method and path have it, and the page is the text of some families.
 //!
 //! # What a body could still get away with

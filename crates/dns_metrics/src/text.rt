@@ -16,7 +16,7 @@ fn push(target: &mut Vec<u8>, octets: &[u8]) -> Result<(), AllocError>
     Ok(())
 }
 
-/// Appends an octet, escaped where it has to be: a double quote only in a value.
+/// Appends an octet, escaped if it has to be: a double quote only in a value.
 fn push_octet(target: &mut Vec<u8>, octet: u8, is_value: bool) -> Result<(), AllocError>
     ensures { OnOk result (target.new.items ≡ target.old.items ++ escaped_octet is_value octet) }
 {
@@ -53,7 +53,7 @@ fn push_label(target: &mut Vec<u8>, label: &Label) -> Result<(), AllocError>
     push(target, b"\"")
 }
 
-/// Appends labels, each behind a comma.
+/// Appends labels, each after a comma.
 #[tactic(auto, using(crate::proofs::Appended::regrouped))]
 fn push_others(target: &mut Vec<u8>, labels: &[Label]) -> Result<(), AllocError>
     ensures { OnOk result (target.new.items ≡ target.old.items ++ flat_map behind_comma labels.now) }

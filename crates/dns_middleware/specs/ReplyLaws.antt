@@ -12,7 +12,7 @@ use Rattle.dns_events.specs.declared.settings.Settings.{Settings}
 use Rattle.dns_layers.specs.Notify.{PolledVerdict}
 use Rattle.dns_middleware.specs.Wrapped.{replies, request_limit}
 
--- where an answer has a reply, that has the property
+-- if an answer has a reply, that has the property
 abbrev pub ReplyHas : (Msg → Type 0) → Answer → Type 0
 ReplyHas P Pending = Unit {0}
 ReplyHas P (Ready None) = Unit {0}

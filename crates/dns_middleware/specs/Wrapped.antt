@@ -26,7 +26,7 @@ pub data Gate (Meta : Type 0) : Type 0 where
   Ask : Notice → Gate Meta
   Pass : Req Meta → Gate Meta
 
--- why a request is refused, where it is
+-- why a request is refused, if it is
 abbrev pub refusal_of : {Meta : Type 0} → Settings → Req Meta → Option Refusal
 refusal_of s r = refusal_by s r.transport (asked_of r.octets)
 

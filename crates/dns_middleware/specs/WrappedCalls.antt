@@ -17,7 +17,7 @@ use Rattle.dns_middleware.specs.declared.wrap_post.WrapPost.{WrapPost}
 use Rattle.dns_middleware.specs.Wrapped.{Gate, Inner, Ask, Pass, by_gate, passed}
 use Rattle.dns_middleware.specs.WrappedStreams.{wrap_by, wrap_rule}
 
--- these answers with their replies rewritten
+-- answers, each with its reply rewritten
 abbrev pub each_rewritten : WrapPost → (ℕ → Answer) → ℕ → Answer
 each_rewritten p given k = mapped (rewritten (wrap_by p)) (given k)
 
@@ -32,6 +32,6 @@ inner_gate s r = gate_past (cookie_own s.cookies s.denied r) (notice_of r) (Pass
 abbrev pub replies_unrefused : {Meta : Type 0} → Settings → (Req Meta → ℕ → Answer) → (Notice → ℕ → PolledVerdict) → Req Meta → ℕ → Answer
 replies_unrefused s svc tgt r = by_gate s svc tgt (limit (hint_of (passed s r).transport)) r (inner_gate s r)
 
--- the rule for the replies to what is asked over a transport, where the request is passed on
+-- the rule for the replies to what is asked over a transport, if the request is passed on
 abbrev pub rule_passed : Settings → TransportSpecificContext → Asked → WrapPost
 rule_passed s t a = wrap_rule s.edns t (limit (hint_of (transport_by (size_by s a) t))) a

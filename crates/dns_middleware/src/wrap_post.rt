@@ -9,7 +9,7 @@ use dns_layers::{EdnsPost, MandatoryPost, Refusal, Rewrite, refuse};
 use dns_service::{Asked, OutOfMemory, TransportSpecificContext};
 use std::alloc::Global;
 
-/// The rules of EDNS, where it is on, and then what each server does.
+/// The rules of EDNS, if it is on, and then what each server does.
 #[derive(Clone, Copy, Debug)]
 pub struct WrapPost {
     speaks_edns: bool,
@@ -18,7 +18,7 @@ pub struct WrapPost {
 }
 
 impl WrapPost {
-    /// The rule for what is asked over a transport, where the hint is this one after the call.
+    /// The rule for what is asked over a transport, if the hint is this one after the call.
     pub fn new(
         speaks_edns: bool,
         asked: &Asked,

@@ -30,7 +30,7 @@ use std::alloc::Global;
 /// How a request is passed on: by the client's size, and by this rule for its replies.
 #[derive(Clone, Copy)]
 pub struct PassPlan {
-    /// The client's size, where EDNS is on and the request has an OPT record.
+    /// The client's size, if EDNS is on and the request has an OPT record.
     pub size: Option<u16>,
     /// The rule for the replies.
     pub post: WrapPost,
@@ -79,7 +79,7 @@ pub(crate) fn not_refused<S: Service<Meta>, N: Notifiable, Meta>(
     }
 }
 
-/// The reply of the cookie layer's own, where it has this one, and else the replies past that layer. This was read of
+/// The reply of the cookie layer's own, if it has this one, and else the replies past that layer. This was read of
 /// the request.
 #[tactic(auto, using(dns_layers::proofs::EdnsLaws::passed_hinted, dns_layers::proofs::EdnsLaws::kept_hint))]
 #[inline(always)]
@@ -139,7 +139,7 @@ fn own<S: Service<Meta>, N: Notifiable, Meta>(
     Ok(WrappedFuture::Own(Some(alone(reply))))
 }
 
-/// The reply of the cookie layer's own, where it has one, rewritten. This was read of the request.
+/// The reply of the cookie layer's own, if it has one, rewritten. This was read of the request.
 #[inline(always)]
 pub fn own_rewritten<Meta>(
     alloc: Global,
@@ -167,7 +167,7 @@ pub fn own_rewritten<Meta>(
     Ok(Some(reply))
 }
 
-/// The replies of the target where there is a notice, and else of the given service, rewritten.
+/// The replies of the target if there is a notice, and else of the given service, rewritten.
 #[tactic(auto, using(dns_layers::proofs::EdnsLaws::passed_hinted, dns_layers::proofs::EdnsLaws::kept_hint))]
 fn notify_or_service<S: Service<Meta>, N: Notifiable, Meta>(
     alloc: Global,

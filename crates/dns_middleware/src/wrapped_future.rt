@@ -45,7 +45,7 @@ where
     }
 }
 
-/// A reply of its own, where it wasn't taken before.
+/// A reply of its own, if it wasn't taken before.
 fn take_own<R, V>(own: &mut Option<Once>) -> Polled<WrappedStream<R, V>>
 where
     R: ReplyStream,

@@ -1,4 +1,4 @@
--- What is found in tables, one behind the other.
+-- What is found in tables, one after the other.
 use Rattle.std.proofs.Common.{◌≡◌, ℕ, Bool, List, ◌++◌, Option, Some, None, option_map, sym, ap, ◌∙◌}
 use Rattle.std.specs.Borrow.{Bor}
 use Rattle.std.specs.List.{find}

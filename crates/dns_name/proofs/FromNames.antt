@@ -6,7 +6,7 @@ use Rattle.dns_name.specs.FromText.{Front, first_label, by_label, before_labels,
 use Rattle.dns_name.proofs.FromTexts.{passed}
 use Rattle.dns_name.proofs.Spelt.{take_all}
 
--- labels in front of those that are read behind them
+-- labels in front of those that are read after them
 abbrev pub behind_done : List (List ℕ) → Result (List (List ℕ)) FromTextError → Result (List (List ℕ)) FromTextError
 behind_done done (Ok ls) = Ok (done ++ ls)
 behind_done done (Err e) = Err e
@@ -99,7 +99,7 @@ from_refusal text e d h = passed e (text_labels text) (text_name text) (λ x k. 
 pub from_dot : (text o : List ℕ) → is_dot text ≡ true → o ≡ 0 ∷ [] → Spells (text_name text) o
 from_dot text o d w = record { labels = []; read_as = ap (λ b. if b then Ok [] else text_labels text) d; written = w; name = record { labels = tt; room = omega arith } }
 
--- what stands behind the first one
+-- what stands after the first one
 pub but_first : (t : List ℕ) → take (length t - 1) (drop 1 t) ≡ drop 1 t
 but_first [] = refl
 but_first (x ∷ t) = let e : length (x ∷ t) - 1 ≡ length t = omega arith in rw e (take_all t)

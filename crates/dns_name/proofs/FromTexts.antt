@@ -101,6 +101,6 @@ is_long_name size t l rest h a b = rw h (grind (arith, nat_tests))
 pub label_refused : (size : ℕ) (t : List ℕ) (e : FromTextError) → IsRefusal e (label_octets t) → IsRefusal e (first_label size t)
 label_refused size t e h = passed e (label_octets t) (first_label size t) (λ x k. ap (fitting size) k) h
 
--- octets are pushed behind how many they are
+-- octets are pushed after how many they are
 pub pushed_behind : (o l s a b : List ℕ) (n : ℕ) → b ≡ a ++ s → a ≡ o ++ (n ∷ []) → s ≡ l → n ≡ length l → b ≡ o ++ (length l ∷ l)
 pushed_behind o l s a b n e f g h = e ∙ (ap (λ x. x ++ s) f ∙ (append_assoc o (n ∷ []) s ∙ (ap (λ x. o ++ (n ∷ x)) g ∙ ap (λ k. o ++ (k ∷ l)) h)))

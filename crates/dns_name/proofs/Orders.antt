@@ -19,7 +19,7 @@ then_equal Less = refl
 then_equal Equal = refl
 then_equal Greater = refl
 
--- lists behind lists of one length
+-- lists after lists of one length
 compared : (R : List ℕ → List ℕ → Ordering) (a b p q : List (List ℕ)) → length a ≡ length b → slice_cmp R (a ++ p) (b ++ q) ≡ ordering_then (slice_cmp R a b) (slice_cmp R p q)
 compared R [] [] p q e = refl
 compared R [] (y ∷ b) p q e = absurd (omega arith)
@@ -33,7 +33,7 @@ length_folded (l ∷ a) = ap suc (length_folded a)
 length_from_last : (a : List (List ℕ)) → length (from_last a) ≡ length a
 length_from_last a = length-reverse (folded a) ∙ length_folded a
 
--- the labels of the front stand behind
+-- the labels of the front stand after
 from_last_append : (p a : List (List ℕ)) → from_last (p ++ a) ≡ from_last a ++ from_last p
 from_last_append p a = ap reverse (map-append _ p a) ∙ reverse-append (folded p) (folded a)
 
@@ -42,7 +42,7 @@ name_cmp_append p q a b e =
     (λ i. slice_cmp (slice_cmp nat_cmp) (from_last_append p a i) (from_last_append q b i))
     ∙ compared (slice_cmp nat_cmp) (from_last a) (from_last b) (from_last p) (from_last q) (length_from_last a ∙ (e ∙ sym (length_from_last b)))
 
--- as many labels are left behind the first ones
+-- as many labels are left after the first ones
 pub as_many : (l m : List ℕ) (a b c d : List (List ℕ)) → c ≡ l ∷ a → d ≡ m ∷ b → length c ≡ length d → length a ≡ length b
 as_many l m a b c d e f g =
     let h : suc (length a) ≡ suc (length b) = sym (ap length e) ∙ (g ∙ ap length f) in

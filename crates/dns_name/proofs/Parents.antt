@@ -5,7 +5,7 @@ use Rattle.dns_name.specs.Labels.{spell, IsName, parent_of}
 use Rattle.dns_name.specs.Names.{IsSpelt, labels_of, uncompressed_at}
 use Rattle.dns_name.proofs.Spelt.{behind, further, is_spelt, labels_alone}
 
--- the labels behind the first are a name's
+-- the labels after the first are a name's
 name_behind : (l : List ℕ) (ls : List (List ℕ)) → IsName (l ∷ ls) → IsName ls
 name_behind l ls n = record { labels = n.labels.2; room = omega (arith, n.room, length-append l (spell ls)) }
 
@@ -15,7 +15,7 @@ label_within o l ls rest e h =
     let s : o ≡ length l ∷ (l ++ spell rest) = e ∙ ap spell h in
     omega (arith, ap length s, length-append l (spell rest))
 
--- the octets behind them are the name of the other labels
+-- the octets after them are the name of the other labels
 pub octets_behind : (o l : List ℕ) (ls rest : List (List ℕ)) → o ≡ spell ls → ls ≡ l ∷ rest → drop (length l + 1) o ≡ spell rest
 octets_behind o l ls rest e h =
     let s : o ≡ length l ∷ (l ++ spell rest) = e ∙ ap spell h in
@@ -40,7 +40,7 @@ none_more k i all h e =
     let n : i + (k - i) ≡ k = omega arith in
     ap (λ m. drop m all) (sym n) ∙ (sym (drop-drop (k - i) i all) ∙ (ap (drop (k - i)) e ∙ drop_all (k - i) [] (omega arith)))
 
--- behind the last label is the root
+-- after the last label is the root
 pub root_behind : (name all : List (List ℕ)) (i k : ℕ) → None ≡ parent_of name → name ≡ drop i all → i ≤ k → name ≡ drop k all
 root_behind [] all i k h e q = sym (none_more k i all q (sym e))
 root_behind (l ∷ name) all i k h e q = absurd (cc)

@@ -45,7 +45,7 @@ folded_name ls n =
 spelt_once : (a b : List (List ℕ)) → IsName a → IsName b → spell a ≡ spell b → a ≡ b
 spelt_once a b m n e = sym (labels_alone a (spell a) refl m) ∙ (ap (λ o. labels_of (uncompressed_at o 0)) e ∙ labels_alone b (spell b) refl n)
 
--- names are the same up to ASCII case exactly where their octets are
+-- names are the same up to ASCII case exactly if their octets are
 pub same_by_octets : (r : Bool) (o p : List ℕ) (a b : List (List ℕ)) → o ≡ spell a → p ≡ spell b → IsName a → IsName b → (IsTrue r ↔ (map to_ascii_lowercase o ≡ map to_ascii_lowercase p)) → (IsTrue r ↔ (folded a ≡ folded b))
 same_by_octets r o p a b d e m n h =
     let x : map to_ascii_lowercase o ≡ spell (folded a) = ap (map to_ascii_lowercase) d ∙ spelt_lower a m.labels in

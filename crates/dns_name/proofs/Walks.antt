@@ -43,7 +43,7 @@ rest_unrolled o r at size hops =
     (λ n h. enough k (most (size + n + 1) hops) o r (at + n + 1) (size + n + 1) hops (omega arith) (omega arith))
     (λ t h. enough k (most size (hops + 1)) o r t size (hops + 1) (omega arith) (omega arith))
 
--- the walk of the code, which keeps the place behind the first pointer
+-- the walk of the code, which keeps the place after the first pointer
 pub walk_err : (o : List ℕ) (r : NameBounds) (at size hops : ℕ) (e : Option ℕ) (x : ParseError) → name_piece r hops o at ≡ Err x → end_by e (rest_of o r at size hops) ≡ Err x
 walk_err o r at size hops None x h = rw (rest_unrolled o r at size hops, h) refl
 walk_err o r at size hops (Some y) x h = rw (rest_unrolled o r at size hops, h) refl

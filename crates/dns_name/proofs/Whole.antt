@@ -22,7 +22,7 @@ not_read : (r : Read (List (List ℕ))) (x : ParseError) → end_of r ≡ Err x 
 not_read (Ok y) x h = absurd (cc)
 not_read (Err y) x h = cc
 
--- octets behind which nothing is left
+-- octets after which nothing is left
 alone : (s more o : List ℕ) → o ≡ s ++ more → length o ≤ length s → o ≡ s
 alone s [] o e h = e ∙ append-nil s
 alone s (x ∷ more) o e h = absurd (omega (arith, ap length e, length-append s (x ∷ more)))

@@ -45,7 +45,7 @@ turned xs ys =
     let e = same_lists (reverse xs) (reverse ys) in
     both_ways _ _ (λ h. e.1 (ap reverse (d.0 h))) (λ h. d.1 (sym (reverse-reverse xs) ∙ (ap reverse (e.0 h) ∙ reverse-reverse ys)))
 
--- names are the same exactly where neither comes first
+-- names are the same exactly if neither comes first
 pub same_name_ties : (a b : List (List ℕ)) → same_name a b ≡ eq_by_cmp name_cmp a b
 same_name_ties a b = turned (folded a) (folded b) ∙ lists_ties (slice_cmp nat_cmp) (lists_ties nat_cmp unsigned_ties) (from_last a)
     (from_last b)

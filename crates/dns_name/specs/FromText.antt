@@ -6,18 +6,18 @@ use Rattle.dns_name.specs.declared.from_text.FromTextError.{FromTextError}
 use Rattle.dns_name.specs.declared.from_text.FromTextError.TheVariants.{EmptyLabel, LongLabel, LongName, BadEscape, BadCharacter, OutOfMemory as NoMemory}
 use Rattle.dns_name.specs.Labels.{spell, IsName}
 
--- what a text begins with and the text behind it, or a refusal
+-- what a text begins with and the text after it, or a refusal
 abbrev pub Front : Type 0 → Type 0
 Front A = Result (A × List ℕ) FromTextError
 
--- \DDD: the octet that three decimal digits are, from the first one and the text behind it
+-- \DDD: the octet that three decimal digits are, from the first one and the text after it
 abbrev pub three_digits : ℕ → List ℕ → Front ℕ
 three_digits a (b ∷ c ∷ rest) =
     let n = 100 * (a - 48) + 10 * (b - 48) + (c - 48) in
     if is_ascii_digit b && is_ascii_digit c && nat_lt n 256 then Ok (n, rest) else Err BadEscape
 three_digits a _ = Err BadEscape
 
--- behind a backslash: \DDD, or \X for the octet of a character that is no digit, a printing one of ASCII or the space
+-- after a backslash: \DDD, or \X for the octet of a character that is no digit, a printing one of ASCII or the space
 abbrev pub escaped : List ℕ → Front ℕ
 escaped [] = Err BadEscape
 escaped (x ∷ rest) =
@@ -36,7 +36,7 @@ abbrev pub ends_label : List ℕ → Bool
 ends_label [] = true
 ends_label (x ∷ rest) = nat_eq x 46
 
--- octets in front of the octets of a label that are read behind them
+-- octets in front of the octets of a label that are read after them
 abbrev pub before_octets : List ℕ → Front (List ℕ) → Front (List ℕ)
 before_octets l (Ok (m, rest)) = Ok (l ++ m, rest)
 before_octets l (Err e) = Err e
@@ -66,13 +66,13 @@ fitting size (Err e) = Err e
 abbrev pub first_label : ℕ → List ℕ → Front (List ℕ)
 first_label size t = fitting size (label_octets t)
 
--- a label in front of those that are read behind it
+-- a label in front of those that are read after it
 abbrev pub before_labels : List ℕ → Result (List (List ℕ)) FromTextError → Result (List (List ℕ)) FromTextError
 before_labels l (Ok ls) = Ok (l ∷ ls)
 before_labels l (Err e) = Err e
 
--- A name from one label on, where go reads the others behind a dot.
--- A dot behind the last label may stand or not.
+-- A name from one label on, where go reads the others after a dot.
+-- A dot after the last label may stand or not.
 abbrev pub by_label : (ℕ → List ℕ → Result (List (List ℕ)) FromTextError) → ℕ → Front (List ℕ) → Result (List (List ℕ)) FromTextError
 by_label go size (Ok (l, [])) = Ok (l ∷ [])
 by_label go size (Ok (l, dot ∷ [])) = Ok (l ∷ [])
@@ -97,7 +97,7 @@ is_dot _ = false
 abbrev pub text_name : List ℕ → Result (List (List ℕ)) FromTextError
 text_name t = if is_dot t then Ok [] else text_labels t
 
--- a refusal is the one that is read, or want of memory
+-- a refusal is the one that is read, or out of memory
 abbrev pub IsRefusal : {A : Type 0} → FromTextError → Result A FromTextError → Type 0
 IsRefusal NoMemory read = Unit {0}
 IsRefusal EmptyLabel read = read ≡ Err EmptyLabel
@@ -111,7 +111,7 @@ abbrev pub GivesName : {A : Type 0} → Result A FromTextError → Result A From
 GivesName (Ok x) read = read ≡ Ok x
 GivesName (Err e) read = IsRefusal e read
 
--- the label that is read is appended behind its length
+-- the label that is read is appended after its length
 pub record Appends (read : Front (List ℕ)) (old new rest : List ℕ) : Type 0 where
   pub label : List ℕ
   pub read_as : read ≡ Ok (label, rest)

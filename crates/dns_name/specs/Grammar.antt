@@ -2,7 +2,7 @@
 use Rattle.std.specs.Prelude.{ℕ, ◌≡◌, ◌+◌, ◌*◌, ◌≤◌, ◌<◌, List, [], ◌∷◌, ◌++◌, length, drop, take}
 use Rattle.dns_name.specs.Labels.{spell, IsName}
 
--- At a place before a limit stands a name of these labels, by so many pointers and up to an end.
+-- At a place before a limit stands a name of these labels, by that many pointers and up to an end.
 -- A pointer's head has its two top bits set, and its target is any earlier place of the octets.
 pub data NameStands (o : List ℕ) : ℕ → ℕ → List (List ℕ) → ℕ → ℕ → Type 0 where
   root : (limit at : ℕ) (more : List ℕ) → drop at (take limit o) ≡ 0 ∷ more → NameStands o limit at [] 0 (at + 1)

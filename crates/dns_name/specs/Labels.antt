@@ -2,7 +2,7 @@
 use Rattle.std.specs.Prelude.{ℕ, ◌≡◌, ◌+◌, ◌-◌, ◌≤◌, ◌<◌, List, [], ◌∷◌, ◌++◌, length, drop, map, Option, Some, None}
 use Rattle.std.specs.Char.{to_ascii_lowercase}
 
--- a name as octets: each label behind its length, and the root
+-- a name as octets: each label after its length, and the root
 abbrev pub spell : List (List ℕ) → List ℕ
 spell [] = 0 ∷ []
 spell (l ∷ ls) = length l ∷ (l ++ spell ls)
@@ -12,7 +12,7 @@ abbrev pub AreLabels : List (List ℕ) → Type 0
 AreLabels [] = Unit {0}
 AreLabels (l ∷ ls) = (0 < length l) × (length l < 64) × AreLabels ls
 
--- labels that end a name whose labels before them have taken so many octets, lengths included
+-- labels that end a name whose labels before them have taken that many octets, lengths included
 pub record FitBehind (size : ℕ) (ls : List (List ℕ)) : Type 0 where
   pub labels : AreLabels ls
   pub room : size + length (spell ls) ≤ 255
@@ -25,7 +25,7 @@ IsName ls = FitBehind 0 ls
 abbrev pub folded : List (List ℕ) → List (List ℕ)
 folded ls = map (map to_ascii_lowercase) ls
 
--- the name behind the first label; the root has none
+-- the name after the first label; the root has none
 abbrev pub parent_of : List (List ℕ) → Option (List (List ℕ))
 parent_of [] = None
 parent_of (l ∷ ls) = Some ls

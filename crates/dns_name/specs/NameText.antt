@@ -18,7 +18,7 @@ octet_text b = if is_quoted b then 92 ∷ encode_utf8 b
 abbrev pub label_text : List ℕ → List ℕ
 label_text l = flat_map octet_text l
 
--- the labels behind the first one, each behind a dot
+-- the labels after the first one, each after a dot
 abbrev pub more_text : List (List ℕ) → List ℕ
 more_text ls = flat_map (λ (l : List ℕ). 46 ∷ label_text l) ls
 

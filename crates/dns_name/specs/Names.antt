@@ -1,4 +1,4 @@
--- The name at a place of a message (RFC 1035, sections 3.1 and 4.1.4), read label by label, and the place behind it.
+-- The name at a place of a message (RFC 1035, sections 3.1 and 4.1.4), read label by label, and the place after it.
 use Rattle.std.specs.Prelude.{ℕ, zero, suc, ◌≡◌, ◌+◌, ◌*◌, ◌-◌, ◌≤◌, Bool, true, false, List, [], ◌∷◌, ◌++◌, length, take, drop, nat_lt, nat_eq, if◌then◌else◌, Result, Ok, Err, Option, Some, None, IsOk}
 use Rattle.dns_name.specs.declared.error.ParseError.{ParseError}
 use Rattle.dns_name.specs.declared.error.ParseError.TheVariants.{ShortInput, Form}
@@ -9,7 +9,7 @@ use Rattle.dns_name.specs.declared.piece.NameBounds.{NameBounds}
 use Rattle.dns_name.specs.Place.{Read}
 use Rattle.dns_name.specs.Labels.{spell, IsName}
 
--- a label of so many octets, from what follows its head
+-- a label of that many octets, from what follows its head
 abbrev pub text : ℕ → List ℕ → Result Piece ParseError
 text head more = if nat_lt (length more) head then Err ShortInput else Ok (Text head)
 
@@ -27,20 +27,20 @@ name_piece_of pointers at (head ∷ more) =
     else (if nat_lt head 192 then Err (Form Label)
     else (if pointers then jump at head more else Err (Form Label))))
 
--- what can be seen: the octets before the limit where no pointer came yet, then all
+-- what can be seen: the octets before the limit if no pointer came yet, then all
 abbrev pub near : ℕ → ℕ → List ℕ → List ℕ
 near limit hops o = if nat_eq hops 0 then take limit o else o
 
--- what stands at a place behind so many pointers
+-- what stands at a place after that many pointers
 unfoldable pub name_piece : NameBounds → ℕ → List ℕ → ℕ → Result Piece ParseError
 name_piece r hops o at = name_piece_of r.pointers at (drop at (near r.limit hops o))
 
--- a label in front of what is read behind it
+-- a label in front of what is read after it
 abbrev pub with_label : List ℕ → Read (List (List ℕ)) → Read (List (List ℕ))
 with_label l (Ok (ls, end)) = Ok (l ∷ ls, end)
 with_label l (Err e) = Err e
 
--- a name that goes on elsewhere ends behind its pointer
+-- a name that goes on elsewhere ends after its pointer
 abbrev pub with_end : ℕ → Read (List (List ℕ)) → Read (List (List ℕ))
 with_end n (Ok (ls, end)) = Ok (ls, n)
 with_end n (Err e) = Err e
@@ -71,7 +71,7 @@ rest_of o r at size hops = name_up_to (most size hops) o r at size hops
 unfoldable pub name_by : List ℕ → NameBounds → ℕ → Read (List (List ℕ))
 name_by o r at = rest_of o r at 0 0
 
--- the name at a place, pointers followed, where the octets before its first pointer lie before the limit
+-- the name at a place, pointers followed, if the octets before its first pointer lie before the limit
 abbrev pub name_within : List ℕ → ℕ → ℕ → Read (List (List ℕ))
 name_within o limit at = name_by o (record { limit = limit; pointers = true }) at
 
@@ -88,7 +88,7 @@ abbrev pub labels_of : Read (List (List ℕ)) → List (List ℕ)
 labels_of (Ok (ls, end)) = ls
 labels_of (Err e) = []
 
--- the place behind what is read
+-- the place after what is read
 abbrev pub end_of : Read (List (List ℕ)) → Result ℕ ParseError
 end_of (Ok (ls, end)) = Ok end
 end_of (Err e) = Err e
@@ -102,11 +102,11 @@ read_whole o (Err e) = Err e
 abbrev pub uncompressed : List ℕ → Result (List (List ℕ)) ParseError
 uncompressed o = read_whole o (uncompressed_at o 0)
 
--- a name with the labels of another behind its own, none above 255 octets (RFC 1035, section 2.3.4)
+-- a name with the labels of another after its own, none above 255 octets (RFC 1035, section 2.3.4)
 abbrev pub name_under : List (List ℕ) → List (List ℕ) → Option (List (List ℕ))
 name_under origin ls = if nat_lt 255 (length (spell (ls ++ origin))) then None else Some (ls ++ origin)
 
--- the place behind a name whose rest this is, where e is the place behind its first pointer
+-- the place after a name whose rest this is, where e is the place after its first pointer
 abbrev pub end_by : Option ℕ → Read (List (List ℕ)) → Result ℕ ParseError
 end_by None r = end_of r
 end_by (Some e) r = end_of (with_end e r)

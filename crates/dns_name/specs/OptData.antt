@@ -9,12 +9,12 @@ use Rattle.dns_name.specs.Place.{Place, rest, moved}
 abbrev pub Taken : Type 0 → Type 0
 Taken X = Result (X × ℕ) ParseError
 
--- a call of parse gives what is read and goes behind it; a refused call leaves the place
+-- a call of parse gives what is read and goes after it; a refused call leaves the place
 abbrev pub ParsesData : {X : Type 0} → Taken X → Place → Place → Result X ParseError → Type 0
 ParsesData (Ok p) old new result = (p.1 ≤ length (rest old)) × (result ≡ Ok p.0) × (new ≡ moved p.1 old)
 ParsesData (Err e) old new result = (result ≡ Err e) × (new ≡ old)
 
--- a call of parse_option: none, and the place stays, where the type reads no options of this code
+-- a call of parse_option: none, and the place stays, if the type reads no options of this code
 abbrev pub ParsesOption : {X : Type 0} → Option (Taken X) → Place → Place → Result (Option X) ParseError → Type 0
 ParsesOption None old new result = (result ≡ Ok None) × (new ≡ old)
 ParsesOption (Some (Ok p)) old new result = (p.1 ≤ length (rest old)) × (result ≡ Ok (Some p.0)) × (new ≡ moved p.1 old)
@@ -29,7 +29,7 @@ abbrev pub whole : {X : Type 0} → List ℕ → Taken X → Result X ParseError
 whole d (Ok p) = if nat_lt p.1 (length d) then Err (Form Trailing) else Ok p.0
 whole d (Err e) = Err e
 
--- the value of an option, or its refusal; none where the type reads no options of this code
+-- the value of an option, or its refusal; none if the type reads no options of this code
 abbrev pub kind : {X : Type 0} → (ℕ → List ℕ → Option (Taken X)) → ℕ → List ℕ → Option (Result X ParseError)
 kind takes code d = option_map (whole d) (takes code d)
 

@@ -11,7 +11,7 @@ build_text (WrongLength stated written) = codes "wrong option length"
 build_text ShortBuf = codes "buffer size exceeded"
 build_text NoMemory = codes "out of memory"
 
--- what is left of an error where the target has no limit
+-- what is left of an error if the target has no limit
 abbrev pub IsUnlimited : BuildDataError → Option TooLong → Type 0
 IsUnlimited LongOptData result = result ≡ Some (record {})
 IsUnlimited (WrongLength stated written) result = result ≡ None

@@ -27,20 +27,20 @@ pub record Place : Type 0 where
 abbrev pub rest : Place → List ℕ
 rest p = drop p.at p.octets
 
--- the place so many octets further
+-- the place that many octets further
 abbrev pub moved : ℕ → Place → Place
 moved n p = record { octets = p.octets; at = p.at + n }
 
--- n octets are taken where as many are left; where fewer are, the place stays
+-- n octets are taken if as many are left; if fewer are, the place stays
 abbrev pub TakesOctets : ℕ → Bool → Place → Place → Type 0
 TakesOctets n true old new = (n ≤ length (rest old)) × (new ≡ moved n old)
 TakesOctets n false old new = (length (rest old) < n) × (new ≡ old)
 
--- what is read is a value and the place behind it, or a refusal
+-- what is read is a value and the place after it, or a refusal
 abbrev pub Read : Type 0 → Type 0
 Read A = Result (A × ℕ) ParseError
 
--- a call gives what is read and goes behind it; a refused call leaves the place
+-- a call gives what is read and goes after it; a refused call leaves the place
 abbrev pub Parses : {A : Type 0} → Result A ParseError → Place → Place → Read A → Type 0
 Parses (Ok x) old new read = (read ≡ Ok (x, new.at)) × (new.octets ≡ old.octets)
 Parses (Err e) old new read = (read ≡ Err e) × (new ≡ old)

@@ -1,5 +1,5 @@
 -- The names that IANA's registries "Domain Name System (DNS) Parameters" give to numbers, and how numbers are written by
--- them: a number without a name stands in decimal, behind TYPE for a record type and CLASS for a class (RFC 3597, section 5).
+-- them: a number without a name stands in decimal, after TYPE for a record type and CLASS for a class (RFC 3597, section 5).
 use Rattle.std.specs.Prelude.{ℕ, ◌+◌, ◌-◌, ◌*◌, Bool, ◌&&◌, List, [], ◌∷◌, ◌++◌, length, take, drop, map, nat_eq, nat_lt, nat_le, if◌then◌else◌, Option, Some, None, codes, decimal}
 use Rattle.std.specs.Borrow.{Bor}
 use Rattle.std.specs.Char.{is_ascii_digit, to_ascii_lowercase}
@@ -34,7 +34,7 @@ entries Rcodes = entries_in RCODES.now ++ entries_in RCODES_FROM_16.now
 abbrev pub entry_of : ℕ × Bor (List ℕ) → Entry
 entry_of e = (e.0, e.1.now)
 
--- what stands before the decimal number where there is no name
+-- what stands before the decimal number if there is no name
 abbrev pub word_of : Registry → List ℕ
 word_of Classes = codes "CLASS"
 word_of Rtypes = codes "TYPE"
@@ -62,7 +62,7 @@ abbrev pub name_or : List ℕ → Option Entry → List ℕ
 name_or other (Some e) = e.1
 name_or other None = other
 
--- how a number is written: by its name, else in decimal behind the registry's word
+-- how a number is written: by its name, else in decimal after the registry's word
 abbrev pub code_text : Registry → ℕ → List ℕ
 code_text r n = name_or (word_of r ++ decimal n) (find (has_number n) (entries r))
 
@@ -88,6 +88,6 @@ abbrev pub number_or : Option ℕ → Option Entry → Option ℕ
 number_or other (Some e) = Some e.0
 number_or other None = other
 
--- the number that a text names: by its name up to ASCII case, else by decimal digits behind the registry's word
+-- the number that a text names: by its name up to ASCII case, else by decimal digits after the registry's word
 abbrev pub code_named : Registry → List ℕ → Option ℕ
 code_named r t = number_or (number_behind (word_of r) t) (find (has_name t) (entries r))

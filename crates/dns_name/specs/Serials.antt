@@ -9,7 +9,7 @@ abbrev pub serial_of : List ℕ → ℕ
 serial_of (a ∷ b ∷ c ∷ d ∷ []) = be32 a b c d
 serial_of _ = 0
 
--- a serial by how far it lies behind another: greater up to 2^31 - 1, neither at 2^31 (RFC 1982, section 3.2)
+-- a serial by how far it lies after another: greater up to 2^31 - 1, neither at 2^31 (RFC 1982, section 3.2)
 abbrev pub by_distance : ℕ → Option Ordering
 by_distance d = if nat_eq d 0 then Some Equal
     else (if nat_lt d 2147483648 then Some Greater else (if nat_eq d 2147483648 then None else Some Less))

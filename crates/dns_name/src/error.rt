@@ -7,7 +7,7 @@ ghost use Rattle.dns_name.specs.declared.error.ParseError.TheVariants.{OutOfMemo
 use std::alloc::{AllocError, AllocFailed};
 use std::fmt;
 
-/// Want of memory, where nothing else can be refused.
+/// Out of memory, if nothing else can be refused.
 #[derive(Clone, Copy, Debug, PartialEq, Eq)]
 pub struct OutOfMemory;
 
@@ -44,7 +44,7 @@ pub enum FormReason {
     Hops,
     /// A name has more than 255 octets (RFC 1035, section 2.3.4).
     LongName,
-    /// Record data goes on behind its shape.
+    /// Record data goes on after its shape.
     Shape,
     /// More than 65,535 octets of options.
     LongList,

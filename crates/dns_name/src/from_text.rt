@@ -106,7 +106,7 @@ fn labels_in(alloc: Global, text: &[u8]) -> Result<Vec<u8>, FromTextError>
     }
 }
 
-/// Appends the label that a text begins with, behind its length, and gives the text behind it. The label's octets
+/// Appends the label that a text begins with, after its length, and gives the text after it. The label's octets
 /// take the place of what is in the first vector.
 fn push_label<'a>(
     text: &'a [u8],
@@ -130,7 +130,7 @@ fn push_label<'a>(
     Ok(rest)
 }
 
-/// Appends the octets of the label that a text begins with to none, and gives the text behind it.
+/// Appends the octets of the label that a text begins with to none, and gives the text after it.
 fn fill_label<'a>(text: &'a [u8], label: &mut Vec<u8>) -> Result<&'a [u8], FromTextError>
     requires { label.old.items ≡ [] }
     ensures { MatchResult result (λ rest. label_octets text.now ≡ Ok (label.new.items, rest.now))
@@ -164,7 +164,7 @@ fn ends_label(text: &[u8]) -> bool
     matches!(text, [] | [b'.', ..])
 }
 
-/// The octet that a text begins with, and the text behind it (RFC 1035, section 5.1).
+/// The octet that a text begins with, and the text after it (RFC 1035, section 5.1).
 fn first_octet(text: &[u8]) -> Result<(u8, &[u8]), FromTextError>
     ensures { MatchResult result (λ r. first_octet text.now ≡ Ok (r.0, r.1.now)) (λ e. first_octet text.now ≡ Err e) }
 {
@@ -175,7 +175,7 @@ fn first_octet(text: &[u8]) -> Result<(u8, &[u8]), FromTextError>
     }
 }
 
-/// The octet of an escape, from behind its backslash, and the text behind it.
+/// The octet of an escape, from after its backslash, and the text after it.
 fn escaped(text: &[u8]) -> Result<(u8, &[u8]), FromTextError>
     ensures { MatchResult result (λ r. escaped text.now ≡ Ok (r.0, r.1.now)) (λ e. escaped text.now ≡ Err e) }
 {
@@ -186,7 +186,7 @@ fn escaped(text: &[u8]) -> Result<(u8, &[u8]), FromTextError>
     }
 }
 
-/// The octet of three digits, from the first one and the text behind it, and the text behind them.
+/// The octet of three digits, from the first one and the text after it, and the text after them.
 fn three_digits(hundreds: u8, text: &[u8]) -> Result<(u8, &[u8]), FromTextError>
     requires { IsTrue (is_ascii_digit hundreds) }
     ensures { MatchResult result (λ r. three_digits hundreds text.now ≡ Ok (r.0, r.1.now)) (λ e. three_digits hundreds text.now ≡ Err e) }

@@ -114,10 +114,13 @@ pub struct Classes;
 pub type Class = Code<Classes>;
 
 impl Code<Classes> {
+    /// RFC 1035, section 3.2.4.
     pub const IN: Class = code!(1);
 
+    /// RFC 1035, section 3.2.4.
     pub const CH: Class = code!(3);
 
+    /// RFC 1035, section 3.2.4.
     pub const HS: Class = code!(4);
 
     /// No class, in an update (RFC 2136, section 2.4).
@@ -134,30 +137,43 @@ pub struct Rtypes;
 pub type Rtype = Code<Rtypes>;
 
 impl Code<Rtypes> {
+    /// RFC 1035, section 3.2.2.
     pub const A: Rtype = code!(1);
 
+    /// RFC 1035, section 3.2.2.
     pub const NS: Rtype = code!(2);
 
+    /// RFC 1035, section 3.2.2.
     pub const MD: Rtype = code!(3);
 
+    /// RFC 1035, section 3.2.2.
     pub const MF: Rtype = code!(4);
 
+    /// RFC 1035, section 3.2.2.
     pub const CNAME: Rtype = code!(5);
 
+    /// RFC 1035, section 3.2.2.
     pub const SOA: Rtype = code!(6);
 
+    /// RFC 1035, section 3.2.2.
     pub const MB: Rtype = code!(7);
 
+    /// RFC 1035, section 3.2.2.
     pub const MG: Rtype = code!(8);
 
+    /// RFC 1035, section 3.2.2.
     pub const MR: Rtype = code!(9);
 
+    /// RFC 1035, section 3.2.2.
     pub const PTR: Rtype = code!(12);
 
+    /// RFC 1035, section 3.2.2.
     pub const MINFO: Rtype = code!(14);
 
+    /// RFC 1035, section 3.2.2.
     pub const MX: Rtype = code!(15);
 
+    /// RFC 1035, section 3.2.2.
     pub const TXT: Rtype = code!(16);
 
     /// RFC 3596.
@@ -257,54 +273,79 @@ pub struct ExtendedErrorCodes;
 pub type ExtendedErrorCode = Code<ExtendedErrorCodes>;
 
 impl Code<ExtendedErrorCodes> {
+    /// RFC 8914, section 4.1.
     pub const OTHER: ExtendedErrorCode = code!(0);
 
+    /// RFC 8914, section 4.2.
     pub const UNSUPPORTED_DNSKEY_ALGORITHM: ExtendedErrorCode = code!(1);
 
+    /// RFC 8914, section 4.3.
     pub const UNSUPPORTED_DS_DIGEST_TYPE: ExtendedErrorCode = code!(2);
 
+    /// RFC 8914, section 4.4.
     pub const STALE_ANSWER: ExtendedErrorCode = code!(3);
 
+    /// RFC 8914, section 4.5.
     pub const FORGED_ANSWER: ExtendedErrorCode = code!(4);
 
+    /// RFC 8914, section 4.6.
     pub const DNSSEC_INDETERMINATE: ExtendedErrorCode = code!(5);
 
+    /// RFC 8914, section 4.7.
     pub const DNSSEC_BOGUS: ExtendedErrorCode = code!(6);
 
+    /// RFC 8914, section 4.8.
     pub const SIGNATURE_EXPIRED: ExtendedErrorCode = code!(7);
 
+    /// RFC 8914, section 4.9.
     pub const SIGNATURE_NOT_YET_VALID: ExtendedErrorCode = code!(8);
 
+    /// RFC 8914, section 4.10.
     pub const DNSKEY_MISSING: ExtendedErrorCode = code!(9);
 
+    /// RFC 8914, section 4.11.
     pub const RRSIGS_MISSING: ExtendedErrorCode = code!(10);
 
+    /// RFC 8914, section 4.12.
     pub const NO_ZONE_KEY_BIT_SET: ExtendedErrorCode = code!(11);
 
+    /// RFC 8914, section 4.13.
     pub const NSEC_MISSING: ExtendedErrorCode = code!(12);
 
+    /// RFC 8914, section 4.14.
     pub const CACHED_ERROR: ExtendedErrorCode = code!(13);
 
+    /// RFC 8914, section 4.15.
     pub const NOT_READY: ExtendedErrorCode = code!(14);
 
+    /// RFC 8914, section 4.16.
     pub const BLOCKED: ExtendedErrorCode = code!(15);
 
+    /// RFC 8914, section 4.17.
     pub const CENSORED: ExtendedErrorCode = code!(16);
 
+    /// RFC 8914, section 4.18.
     pub const FILTERED: ExtendedErrorCode = code!(17);
 
+    /// RFC 8914, section 4.19.
     pub const PROHIBITED: ExtendedErrorCode = code!(18);
 
+    /// RFC 8914, section 4.20.
     pub const STALE_NXDOMAIN_ANSWER: ExtendedErrorCode = code!(19);
 
+    /// RFC 8914, section 4.21.
     pub const NOT_AUTHORITATIVE: ExtendedErrorCode = code!(20);
 
+    /// RFC 8914, section 4.22.
     pub const NOT_SUPPORTED: ExtendedErrorCode = code!(21);
 
+    /// RFC 8914, section 4.23.
     pub const NO_REACHABLE_AUTHORITY: ExtendedErrorCode = code!(22);
 
+    /// RFC 8914, section 4.24.
     pub const NETWORK_ERROR: ExtendedErrorCode = code!(23);
 
+    /// RFC 8914, section 4.25.
     pub const INVALID_DATA: ExtendedErrorCode = code!(24);
 }
 
@@ -315,14 +356,19 @@ pub struct Opcodes;
 pub type Opcode = HeaderCode<Opcodes>;
 
 impl HeaderCode<Opcodes> {
+    /// RFC 1035, section 4.1.1.
     pub const QUERY: Opcode = header_code!(0);
 
+    /// RFC 1035, section 4.1.1.
     pub const IQUERY: Opcode = header_code!(1);
 
+    /// RFC 1035, section 4.1.1.
     pub const STATUS: Opcode = header_code!(2);
 
+    /// RFC 1996.
     pub const NOTIFY: Opcode = header_code!(4);
 
+    /// RFC 2136.
     pub const UPDATE: Opcode = header_code!(5);
 
     /// RFC 8490.
@@ -336,26 +382,37 @@ pub struct Rcodes;
 pub type Rcode = HeaderCode<Rcodes>;
 
 impl HeaderCode<Rcodes> {
+    /// RFC 1035, section 4.1.1.
     pub const NOERROR: Rcode = header_code!(0);
 
+    /// RFC 1035, section 4.1.1.
     pub const FORMERR: Rcode = header_code!(1);
 
+    /// RFC 1035, section 4.1.1.
     pub const SERVFAIL: Rcode = header_code!(2);
 
+    /// RFC 1035, section 4.1.1.
     pub const NXDOMAIN: Rcode = header_code!(3);
 
+    /// RFC 1035, section 4.1.1.
     pub const NOTIMP: Rcode = header_code!(4);
 
+    /// RFC 1035, section 4.1.1.
     pub const REFUSED: Rcode = header_code!(5);
 
+    /// RFC 2136.
     pub const YXDOMAIN: Rcode = header_code!(6);
 
+    /// RFC 2136.
     pub const YXRRSET: Rcode = header_code!(7);
 
+    /// RFC 2136.
     pub const NXRRSET: Rcode = header_code!(8);
 
+    /// RFC 2136.
     pub const NOTAUTH: Rcode = header_code!(9);
 
+    /// RFC 2136.
     pub const NOTZONE: Rcode = header_code!(10);
 
     /// RFC 8490.

@@ -51,7 +51,7 @@ impl<'a> Labels<'a> {
         }
     }
 
-    /// The labels behind so many.
+    /// The labels after that many.
     pub fn behind(self, skipped: usize) -> Labels<'a>
         ensures { result ≡ drop skipped self.entry }
     {
@@ -87,7 +87,7 @@ impl<'a> Iterator for Labels<'a> {
     }
 }
 
-/// Appends a label behind its length.
+/// Appends a label after its length.
 pub(crate) fn push_spelt(label: &[u8], octets: &mut Vec<u8>) -> Result<(), OutOfMemory>
     requires { length label.now < 256 }
     ensures { OnOk result (octets.new.items ≡ octets.old.items ++ (length label.now ∷ label.now)) }
@@ -97,7 +97,7 @@ pub(crate) fn push_spelt(label: &[u8], octets: &mut Vec<u8>) -> Result<(), OutOf
     Ok(())
 }
 
-/// Appends octets in lower case; nothing where there is no memory.
+/// Appends octets in lower case; nothing if there is no memory.
 pub fn push_lower(label: &[u8], octets: &mut Vec<u8>) -> Result<(), OutOfMemory>
     ensures ok { OnOk result (octets.new.items ≡ octets.old.items ++ map to_ascii_lowercase label.now) }
     ensures err { OnErr result (octets.new.items ≡ octets.old.items) }
@@ -137,7 +137,7 @@ pub(crate) fn ends(labels: Labels<'_>, count: usize, others: Labels<'_>, other_c
     same(behind(labels, count - other_count), others)
 }
 
-/// The labels behind so many.
+/// The labels after that many.
 fn behind(mut labels: Labels<'_>, skipped: usize) -> Labels<'_>
     ensures { result ≡ drop skipped labels.entry }
 {
@@ -165,7 +165,7 @@ pub(crate) fn canonical(
     by_last(left, others_left).then(count.cmp(&other_count))
 }
 
-/// How as many labels compare in the canonical order: a label decides where those behind it are the same.
+/// How as many labels compare in the canonical order: a label decides if those after it are the same.
 fn by_last(mut labels: Labels<'_>, mut others: Labels<'_>) -> Ordering
     requires { length labels ≡ length others }
     ensures { result ≡ name_cmp labels.entry others.entry }

@@ -14,7 +14,7 @@ ghost use Rattle.dns_name.specs.Registries.{code_named, code_text};
 
 use crate::name::NameRef;
 
-/// A name is read at a place exactly where the grammar has one.
+/// A name is read at a place exactly if the grammar has one.
 pub fn names_are_the_grammar()
     ensures compressed { (o : List ℕ) (limit at end : ℕ) (ls : List (List ℕ))
         → Found o limit at 0 0 ls end ↔ (name_within o limit at ≡ Ok (ls, end)) }
@@ -22,7 +22,7 @@ pub fn names_are_the_grammar()
         → StandsPlain o at ls end ↔ (uncompressed_at o at ≡ Ok (ls, end)) }
 {}
 
-/// The canonical order of names is total, and neither of two names comes first exactly where they are the same up
+/// The canonical order of names is total, and neither of two names comes first exactly if they are the same up
 /// to ASCII case (RFC 4034, section 6.1).
 pub fn names_are_ordered()
     ensures total { IsTotalOrder name_cmp }

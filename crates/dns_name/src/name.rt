@@ -84,7 +84,7 @@ impl<'a> NameRef<'a> {
         Ok(NameRef { octets })
     }
 
-    /// The uncompressed name at a place, and the place behind it.
+    /// The uncompressed name at a place, and the place after it.
     pub fn at(octets: &'a [u8], at: usize) -> Result<(NameRef<'a>, usize), ParseError>
         requires { at ≤ length octets.now }
         ensures value { result ≡ uncompressed_at octets.now at }
@@ -217,7 +217,7 @@ impl Name {
         Ok(Name { octets })
     }
 
-    /// The uncompressed name that octets are, and no more. The vector is not copied.
+    /// The uncompressed name that the octets spell (RFC 1035, section 3.1). Octets after its root label are refused. The vector is not copied.
     pub fn from_octets(octets: Vec<u8>) -> Result<Name, ParseError>
         ensures { result ≡ uncompressed octets.items }
     {

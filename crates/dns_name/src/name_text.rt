@@ -27,7 +27,7 @@ impl fmt::Display for OctetText {
     }
 }
 
-/// Writes an octet as three decimal digits behind a backslash.
+/// Writes an octet as three decimal digits after a backslash.
 fn write_digits<W: fmt::Write>(octet: u8, f: &mut fmt::Formatter<W>) -> fmt::Result
     ensures { WritesOnOk W.write_str_gives f.old result (digits_text octet) f.new }
 {
@@ -66,7 +66,7 @@ pub(crate) fn write_name<W: fmt::Write>(
     write_more(labels, f)
 }
 
-/// Writes labels, each behind a dot.
+/// Writes labels, each after a dot.
 fn write_more<W: fmt::Write>(mut labels: Labels<'_>, f: &mut fmt::Formatter<W>) -> fmt::Result
     ensures { WritesOnOk W.write_str_gives f.old result (more_text labels.entry) f.new }
 {

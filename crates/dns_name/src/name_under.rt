@@ -8,7 +8,7 @@ use crate::name::Name;
 use std::alloc::Global;
 
 impl Name {
-    /// The name with the labels of another behind its own; none above 255 octets (RFC 1035, section 2.3.4).
+    /// The name with the labels of another after its own; none above 255 octets (RFC 1035, section 2.3.4).
     pub fn under(&self, alloc: Global, origin: &Name) -> Result<Option<Name>, OutOfMemory>
         ensures { IfOk result (λ o. o ≡ name_under origin.now self.now) }
     {

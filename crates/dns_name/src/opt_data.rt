@@ -21,12 +21,12 @@ pub trait OptData {
 
 /// Option data that is read without memory.
 pub trait ParseOptData<'a>: OptData + Sized {
-    /// What is read of octets under a code: nothing where the type reads no options of this code,
+    /// What is read of octets under a code: nothing if the type reads no options of this code,
     /// else a value and how many octets it takes, or a refusal.
     ghost takes: { ℕ → List ℕ → Option (Taken Self) };
 
     /// Reads the data of an option of this code, of which the parser has all.
-    /// None, and the parser stays, where the type reads no options of this code.
+    /// None, and the parser stays, if the type reads no options of this code.
     /// A refused call leaves the parser too.
     fn parse_option(code: OptionCode, parser: &mut Parser<'a>) -> Result<Option<Self>, ParseError>
         ensures { ParsesOption (takes code (rest parser.old)) parser.old parser.new result };
@@ -41,13 +41,13 @@ pub trait ComposeOptData: OptData {
     fn compose_len(&self) -> u16
         ensures { result ≡ length (octets self.now) };
 
-    /// Appends the data's octets; nothing where there is no memory.
+    /// Appends the data's octets; nothing if there is no memory.
     fn compose_option(&self, alloc: Global, target: &mut Vec<u8>) -> Result<(), OutOfMemory>
         ensures ok { OnOk result (target.new.items ≡ target.old.items ++ octets self.now) }
         ensures err { OnErr result (target.new.items ≡ target.old.items) };
 }
 
-/// Option data that comes back where it is written and read again.
+/// Option data that comes back if it is written and read again.
 pub trait ReadBack<'a>: ParseOptData<'a> + ComposeOptData {
     /// The values that there are and that come back.
     ghost is_readable: { Self → Type 0 };

@@ -20,7 +20,7 @@ impl LongOptData {
         "option data too long"
     }
 
-    /// Whether data of so many octets can be an option's.
+    /// Whether data of that many octets can be an option's.
     pub fn check_len(len: usize) -> Result<(), LongOptData>
         ensures { MatchResult result (λ _. len ≤ 65535) (λ _. 65535 < len) }
     {
@@ -65,7 +65,7 @@ pub enum BuildDataError {
 }
 
 impl BuildDataError {
-    /// The one error on data that is left where the target has no limit.
+    /// The one error on data that is left if the target has no limit.
     pub fn unlimited_buf(self) -> Option<LongOptData>
         ensures { IsUnlimited self result }
     {

@@ -29,16 +29,22 @@ impl Model for OptRcode {
 }
 
 impl OptRcode {
+    /// RFC 1035, section 4.1.1.
     pub const NOERROR: OptRcode = OptRcode { number: 0 };
 
+    /// RFC 1035, section 4.1.1.
     pub const FORMERR: OptRcode = OptRcode { number: 1 };
 
+    /// RFC 1035, section 4.1.1.
     pub const SERVFAIL: OptRcode = OptRcode { number: 2 };
 
+    /// RFC 1035, section 4.1.1.
     pub const NXDOMAIN: OptRcode = OptRcode { number: 3 };
 
+    /// RFC 1035, section 4.1.1.
     pub const NOTIMP: OptRcode = OptRcode { number: 4 };
 
+    /// RFC 1035, section 4.1.1.
     pub const REFUSED: OptRcode = OptRcode { number: 5 };
 
     /// RFC 2136.
@@ -131,7 +137,7 @@ impl OptRcode {
     }
 }
 
-/// The registered name, or the decimal number where there is none.
+/// The registered name, or the decimal number if there is none.
 impl fmt::Display for OptRcode {
     ghost output = { λ c. Some (code_text Registry.Rcodes c) };
 

@@ -82,7 +82,7 @@ impl<'a> fmt::Debug for ParsedName<'a> {
     }
 }
 
-/// The place behind the name that is read so at a place.
+/// The place after the name that is read so at a place.
 pub(crate) fn end_at(message: &[u8], reach: NameBounds, start: usize) -> Result<usize, ParseError>
     requires first { start ≤ reach.limit }
     requires limited { reach.limit ≤ length message.now }
@@ -118,7 +118,7 @@ pub(crate) fn end_at(message: &[u8], reach: NameBounds, start: usize) -> Result<
 }
 
 impl<'a> ParsedName<'a> {
-    /// The name at a place of a message and the place behind it, where the octets before the name's first
+    /// The name at a place of a message and the place after it, if the octets before the name's first
     /// pointer lie before the limit.
     pub fn at(
         message: &'a [u8],

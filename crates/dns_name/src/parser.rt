@@ -83,7 +83,7 @@ impl<'a> Parser<'a> {
         self.at = at;
     }
 
-    /// Goes past so many octets.
+    /// Goes past that many octets.
     pub fn advance(&mut self, n: usize) -> Result<(), ParseError>
         ensures taken { TakesOctets n (is_ok result) self.old self.new }
         ensures err { IfErr result (λ e. e ≡ ParseError.ShortInput) }

@@ -10,7 +10,7 @@ use crate::error::{FormReason, ParseError};
 pub enum Piece {
     /// The root's octet.
     End,
-    /// A label of so many octets, behind its head.
+    /// A label of that many octets, after its head.
     Text(usize),
     /// A pointer to a place.
     Jump(usize),
@@ -25,7 +25,7 @@ pub struct NameBounds {
     pub pointers: bool,
 }
 
-/// The piece at a place, behind so many pointers.
+/// The piece at a place, after that many pointers.
 #[tactic(auto, unfolding(crate::specs::Names::name_piece))]
 pub fn piece_at(
     message: &[u8],

@@ -123,7 +123,7 @@ fn type_found(wanted: Wanted<'_>) -> Option<(u16, &'static str)>
         .or(first_in(TYPES_FROM_258, wanted))
 }
 
-/// Writes a number by its name, or in decimal behind the registry's word.
+/// Writes a number by its name, or in decimal after the registry's word.
 pub(crate) fn write_code<W: fmt::Write>(
     registry: Registry,
     number: u16,
@@ -140,7 +140,7 @@ pub(crate) fn write_code<W: fmt::Write>(
     }
 }
 
-/// The number that a text names: by its name up to ASCII case, or in decimal behind the registry's word.
+/// The number that a text names: by its name up to ASCII case, or in decimal after the registry's word.
 pub(crate) fn code_in(registry: Registry, text: &str) -> Option<u16>
     ensures { result ≡ code_named registry text.now }
 {
@@ -150,7 +150,7 @@ pub(crate) fn code_in(registry: Registry, text: &str) -> Option<u16>
     }
 }
 
-/// The number that decimal digits behind a word are.
+/// The number that decimal digits after a word are.
 fn number_behind(word: &[u8], text: &[u8]) -> Option<u16>
     ensures { result ≡ number_behind word.now text.now }
 {

@@ -1,4 +1,4 @@
-//! The names of IANA's registries "Domain Name System (DNS) Parameters": numbers, each with its name. Where a number or a
+//! The names of IANA's registries "Domain Name System (DNS) Parameters": numbers, each with its name. If a number or a
 //! name stands twice, the first entry counts.
 
 /// The classes (registry "DNS CLASSes"; RFC 1035, section 3.2.4; RFC 2136, section 2.4). ANY is registered as `*` too.

@@ -25,7 +25,7 @@ impl Serial {
         Serial(self.0.wrapping_add(other))
     }
 
-    /// How two serials compare (RFC 1982, section 3.2); none where they are 2^31 apart. This comparison is not
+    /// How two serials compare (RFC 1982, section 3.2); none if they are 2^31 apart. This comparison is not
     /// transitive, so it is no `PartialOrd`.
     pub fn partial_cmp(&self, other: &Serial) -> Option<Ordering>
         ensures { result ≡ serial_cmp self.now.0 other.now.0 }

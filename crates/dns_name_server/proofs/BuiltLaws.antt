@@ -63,7 +63,7 @@ answers_only given code =
     let f : Bool → List ResourceRecord → WireReply = λ a l. record { aa = a; rcode = code; answers = l; authority = []; additional = [] } in
     (λ i. f (or_true (are_any given) i) (append-nil given i))
 
--- a referral is authoritative where aliases are before it
+-- a referral is authoritative if aliases are before it
 pub referral_is : (z : ZoneState) (servers : List Record) (given authority additional : List ResourceRecord) (aa : Bool) → aa ≡ are_any given → authority ≡ map record_of servers → additional ≡ map record_of (referral z servers).additional →
     behind given (wired (referral z servers)) ≡ record { aa = aa; rcode = 0; answers = given; authority = authority; additional = additional }
 referral_is z servers given authority additional aa a n x =

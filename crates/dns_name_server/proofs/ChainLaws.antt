@@ -13,7 +13,7 @@ use Rattle.dns_name_server.specs.declared.step.End.{End}
 use Rattle.dns_name_server.specs.declared.step.Step.TheVariants.{End as Ends, On}
 use Rattle.dns_name_server.proofs.StepLaws.{reply_ends, reply_on, reply_stops}
 
--- the reply for a name that is asked for, where so many more may be
+-- the reply for a name that is asked for, if that many more may be
 abbrev pub asked_reply : ZoneState → ℕ → ℕ → List (List (List ℕ)) → List (List ℕ) → ZoneReply
 asked_reply z t left seen name = by_region z (reply_from z t left (seen ++ name ∷ [])) t name (asked_region z t name)
 

@@ -10,7 +10,7 @@ use Rattle.dns_name.specs.declared.error.ParseError.TheVariants.{Form}
 use Rattle.dns_name.specs.declared.error.FormReason.TheVariants.{Trailing}
 use Rattle.dns_name.proofs.Spelt.{spelt_alone}
 
--- each label behind its length
+-- each label after its length
 marks : List (List ℕ) → List ℕ
 marks [] = []
 marks (l ∷ ls) = length l ∷ (l ++ marks ls)

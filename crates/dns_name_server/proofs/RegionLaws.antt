@@ -1,4 +1,4 @@
--- Where a zone has no DNAME record, its authority reaches down a name to the cut of the name.
+-- If a zone has no DNAME record, its authority reaches down a name to the cut of the name.
 use Rattle.std.proofs.Common.{◌≡◌, ℕ, zero, suc, ◌+◌, ◌-◌, ◌≤◌, ◌<◌, Bool, true, false, List, [], ◌∷◌, length, drop, get_or, nat_eq, nat_le, refl, ap, sym, subst, ◌∙◌, arith, inl, inr}
 use Rattle.std.specs.Prelude.{◌&&◌, ◌||◌, ◌⊎◌, not, if◌then◌else◌}
 use Rattle.std.specs.Cmp.{both_ways}
@@ -26,13 +26,13 @@ or_else : (b c : Bool) → (if b then true else c) ≡ (b || c)
 or_else true c = refl
 or_else false c = refl
 
--- a test passes where a filter leaves something
+-- a test passes if a filter leaves something
 some_any : (p : Record → Bool) (rs : List Record) → are_some (filter p rs) ≡ list_any p rs
 some_any p [] = refl
 some_any p (r ∷ rs) = some_step (p r) (list_any p rs) r (filter p rs) (some_any p rs) ∙ or_else (p r) (list_any p rs)
 
 module _ (z : ZoneState) (q : List (List ℕ)) (within : AllByRecursion (IsInZone z.apex) z.records) (inside : ends_name q z.apex ≡ true) (plain : list_any (is_of 39) z.records ≡ false) where
-  -- ---- the name behind all labels but so many
+  -- ---- the name after all labels but that many
 
   part : ℕ → List (List ℕ)
   part k = drop (length q - k) q
@@ -67,7 +67,7 @@ module _ (z : ZoneState) (q : List (List ℕ)) (within : AllByRecursion (IsInZon
   no_dname : (name : List (List ℕ)) → asked_records z name 39 ≡ []
   no_dname name = no_records (is_asked name 39) z.records (any_false (is_asked name 39) (is_of 39) (λ r e. second_true (is_owned name r) (is_of 39 r) e) z.records plain)
 
-  -- down to so many labels
+  -- down to that many labels
   Reaches : ℕ → Type 0
   Reaches k = (NoneUpTo z.apex q k z.records × (region z (part k) ≡ Within)) ⊎ ((is_cut_off z q ≡ true) × (region z (part k) ≡ BelowCut (cut_records z q)))
 

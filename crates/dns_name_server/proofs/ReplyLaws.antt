@@ -1,4 +1,4 @@
--- Where the reply of a name server is that of a single service.
+-- When the reply of a name server is that of a single service.
 use Rattle.std.proofs.Common.{◌≡◌, ℕ, Bool, true, false, List, [], ◌∷◌, ◌++◌, refl, ap, sym, ◌∙◌, nat_eq}
 use Rattle.std.specs.Prelude.{◌&&◌, not, if◌then◌else◌}
 use Rattle.dns_message.specs.declared.question.Question.{Question}

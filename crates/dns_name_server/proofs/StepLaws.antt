@@ -217,7 +217,7 @@ given_nowhere old new copy c go o e f g =
     ap (λ (l : List ResourceRecord). behind l (wired (authoritative []))) (e ∙ ap (λ (x : Record). old ++ record_of x ∷ []) f)
     ∙ (behind_more old c (authoritative []) ∙ ap (λ (x : Option (List (List ℕ))). behind old (wired (behind_alias c (gone_to go x)))) g)
 
--- a record that is given, and what is behind it
+-- a record that is given, and what is after it
 pub given_then : (old mid new : List ResourceRecord) (copy c : Record) (r : ZoneReply) (s : WireReply) → mid ≡ old ++ record_of copy ∷ [] → copy ≡ c → behind new s ≡ behind mid (wired r) → behind new s ≡ behind old (wired (behind_alias c r))
 given_then old mid new copy c r s e f h =
     h ∙ (ap (λ (l : List ResourceRecord). behind l (wired r)) (e ∙ ap (λ (x : Record). old ++ record_of x ∷ []) f) ∙ behind_more old c r)

@@ -1,4 +1,4 @@
--- Where no wildcard exists, names have the records that they own.
+-- If no wildcard exists, names have the records that they own.
 use Rattle.std.proofs.Common.{◌≡◌, ℕ, zero, suc, Bool, true, false, List, [], ◌∷◌, map, length, drop, refl, ap, sym, ◌∙◌, arith, ◌-◌, ◌≤◌}
 use Rattle.std.specs.Prelude.{◌&&◌, ◌||◌, if◌then◌else◌, nat_le, Option, Some, None}
 use Rattle.std.specs.List.{filter, list_any}
@@ -52,7 +52,7 @@ some_step : (b c : Bool) (r : Record) (ks : List Record) → are_some ks ≡ c �
 some_step true c r ks h = refl
 some_step false c r ks h = h
 
--- a test passes where a filter leaves something
+-- a test passes if a filter leaves something
 some_any : (p : Record → Bool) (rs : List Record) → are_some (filter p rs) ≡ list_any p rs
 some_any p [] = refl
 some_any p (r ∷ rs) = some_step (p r) (list_any p rs) r (filter p rs) (some_any p rs)

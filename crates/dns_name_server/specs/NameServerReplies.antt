@@ -31,7 +31,7 @@ made_alias name d to = record d { owner = name; rdata = Named 5 to }
 abbrev pub too_long : ZoneReply
 too_long = record (authoritative []) { rcode = 6 }
 
--- the CNAME record is followed as others are: not where CNAME itself is asked for, nor any records
+-- the CNAME record is followed as others are: not if CNAME itself is asked for, nor any records
 abbrev pub gone_by : (List (List ℕ) → ZoneReply) → ℕ → List (List ℕ) → Record → Option (List (List ℕ)) → ZoneReply
 gone_by go t name d None = too_long
 gone_by go t name d (Some to) = behind_alias (made_alias name d to) (if follows t then go to else authoritative [])
@@ -73,7 +73,7 @@ by_region z go t name (BelowDname ds) = by_dname go t name ds
 abbrev pub is_answered : ZoneState → List (List (List ℕ)) → List (List ℕ) → Bool
 is_answered z seen name = ends_name name z.apex && not (list_any (same_name name) seen)
 
--- the reply for a name that others led to, of which so many more at most are asked for
+-- the reply for a name that others led to, of which that many more at most are asked for
 unfoldable pub reply_from : ZoneState → ℕ → ℕ → List (List (List ℕ)) → List (List ℕ) → ZoneReply
 reply_from z t zero seen name = authoritative []
 reply_from z t (suc k) seen name = if is_answered z seen name

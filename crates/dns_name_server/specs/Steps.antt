@@ -48,7 +48,7 @@ abbrev pub head_of : List Record → Option Record
 head_of [] = None
 head_of (r ∷ rs) = Some r
 
--- the alias among the CNAME records of a name, where it is followed for a type
+-- the alias among the CNAME records of a name, if it is followed for a type
 abbrev pub followed_alias : ℕ → List Record → Option Record
 followed_alias t rs = if follows t then head_of rs else None
 
@@ -56,7 +56,7 @@ followed_alias t rs = if follows t then head_of rs else None
 abbrev pub own_reply : ZoneState → List Record → ZoneReply
 own_reply z rs = if are_some rs then authoritative rs else denied z 0
 
--- a record with another owner, where one is given
+-- a record with another owner, if one is given
 abbrev pub owned_by : Option (List (List ℕ)) → Record → Record
 owned_by None r = r
 owned_by (Some name) r = given_as name r
@@ -69,7 +69,7 @@ end_reply z (Delegation m) = referral z (at_places z.records (kind_places 2 m.no
 end_reply z (Denied there) = denied z (if there then 0 else 3)
 end_reply z TooLong = too_long
 
--- and what a step leads to, where go replies for the next name
+-- the reply that a step leads to, where go replies for the next name
 abbrev pub step_reply : ZoneState → (List (List ℕ) → ZoneReply) → Step → ZoneReply
 step_reply z go (Ends e) = end_reply z e
 step_reply z go (On name) = go name

@@ -20,7 +20,7 @@ abbrev pub wild_followed : ZoneState → ℕ → ℕ → List (List ℕ) → Lis
 wild_followed z t zero name = unaliased (had_records z name 5) (had_records z name t)
 wild_followed z t (suc k) name = aliased z (wild_followed z t k) (had_records z name 5) (had_records z name t)
 
--- the five cases of `zone_reply`, where a name has the records of a wildcard
+-- the five cases of `zone_reply`, if a name has the records of a wildcard
 abbrev pub wild_reply : ZoneState → Question → ZoneReply
 wild_reply z q =
     if is_cut_off z q.qname then referral z (cut_records z q.qname)
@@ -40,7 +40,7 @@ is_star l = bytes_eq l star
 abbrev pub has_star : Record → Bool
 has_star r = list_any is_star (folded r.owner)
 
--- where no wildcard exists the reply is that without wildcards, and none exists where no label of an owner is `*`
+-- if no wildcard exists the reply is that without wildcards, and none exists if no label of an owner is `*`
 abbrev pub WildcardsAlone : Type 0
 WildcardsAlone = (z : ZoneState) (q : Question) → HasNoWildcard z → wild_reply z q ≡ zone_reply z q
 
@@ -52,7 +52,7 @@ abbrev pub ExistingNamesAreTheirOwn : Type 0
 ExistingNamesAreTheirOwn = (z : ZoneState) (q : Question) → exists z q.qname ≡ true
     → list_any (is_asked q.qname 5) z.records ≡ false → wild_reply z q ≡ zone_reply z q
 
--- ---- where the reply of a name server is that
+-- ---- when the reply of a name server is that
 
 -- no alias is in the way, no DNAME record is in the zone, and the type isn't DS
 pub record IsDirect (z : ZoneState) (q : Question) : Type 0 where

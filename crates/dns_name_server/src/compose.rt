@@ -37,7 +37,7 @@ fn built(
     Ok(last)
 }
 
-/// Adds the record at a place, where there is one.
+/// Adds the record at a place, if there is one.
 fn add_place(
     alloc: Global,
     records: &[Record],
@@ -69,7 +69,7 @@ fn wire_places(
     Ok(all)
 }
 
-/// Adds the record at a place, where it is of a type.
+/// Adds the record at a place, if it is of a type.
 fn add_kind(
     alloc: Global,
     records: &[Record],

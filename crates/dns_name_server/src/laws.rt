@@ -2,13 +2,13 @@
 
 ghost use Rattle.dns_name_server.specs.WildReplies.{DirectRepliesAreTheZones, DirectRepliesAreWild, ExistingNamesAreTheirOwn, WildcardsAlone, WildcardsAreStars};
 
-/// Where no wildcard exists the reply is that without wildcards.
+/// If no wildcard exists the reply is that without wildcards.
 #[tactic(auto, using(crate::proofs::WildLaws::wildcards_alone))]
 pub fn wildcards_alone()
     ensures { WildcardsAlone }
 {}
 
-/// No wildcard exists where no label of an owner is `*`.
+/// No wildcard exists if no label of an owner is `*`.
 #[tactic(auto, using(crate::proofs::WildLaws::wildcards_are_stars))]
 pub fn wildcards_are_stars()
     ensures { WildcardsAreStars }

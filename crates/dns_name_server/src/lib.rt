@@ -4,7 +4,7 @@
 //!
 //! Its definition goes where name servers go and `zone_reply` of dns_zone, the reply of a single service, doesn't. A
 //! chain of aliases is followed to its end, and the end says the response code (RFC 6604): NXDOMAIN or NODATA with
-//! the SOA record, or a referral behind the aliases. A loop gives each record once (RFC 2181, section 5). Wildcards
+//! the SOA record, or a referral after the aliases. A loop gives each record once (RFC 2181, section 5). Wildcards
 //! are given as the name that was asked for (RFC 4592). DNAME records substitute (RFC 6672). DS at a cut is the
 //! parent's (RFC 4035, section 3.1.4.1).
 //!
@@ -23,7 +23,7 @@
 //!   records alone.
 //! - If no alias and no DNAME record is in the way and the type isn't DS, the reply is `wild_reply`. If no wildcard exists it is
 //!   that of a zone, `zone_reply` (`direct_replies_are_the_zones`).
-//! - Where no wildcard exists, `wild_reply` is `zone_reply` (`wildcards_alone`). None exists where no label of an owner
+//! - If no wildcard exists, `wild_reply` is `zone_reply` (`wildcards_alone`). None exists if no label of an owner
 //!   is `*` (`wildcards_are_stars`).
 //! - A name that exists never has the records of a wildcard (`existing_names_are_their_own`; RFC 4592, section 2.2.1).
 //!

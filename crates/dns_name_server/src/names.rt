@@ -5,7 +5,7 @@ ghost use Rattle.std.specs.Prelude.{◌≡◌, IfOk, take};
 use dns_name::{Name, NameRef, OutOfMemory};
 use std::alloc::Global;
 
-/// The name of the first labels of a name, of so many.
+/// The name of the first labels of a name, of that many.
 pub(crate) fn front_of(alloc: Global, name: &NameRef<'_>, count: usize) -> Result<Name, OutOfMemory>
     ensures { IfOk result (λ n. n ≡ take count name.now) }
 {

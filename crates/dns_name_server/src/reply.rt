@@ -76,7 +76,7 @@ fn chain<'a>(
 
 /// The reply of a name server to a question for a name at or below the apex of a zone, as it is built (RFC 1034, section
 /// 4.3.2): with wildcards (RFC 4592), DNAME (RFC 6672), DS at a cut from the parent's side (RFC 4035, section 3.1.4.1), and
-/// the negative answers of RFC 2308 behind aliases too (RFC 6604).
+/// the negative answers of RFC 2308 after aliases too (RFC 6604).
 pub fn name_server_reply(
     zone: &ZoneTree,
     alloc: Global,

@@ -65,7 +65,7 @@ fn first_of<'a>(records: &'a [Record], kinds: &[TypedPlace], rtype: u16) -> Opti
     None
 }
 
-/// A copy of a record, with another owner where one is given.
+/// A copy of a record, with another owner if one is given.
 fn copied(
     alloc: Global,
     resource: &Record,
@@ -84,7 +84,7 @@ fn copied(
     }
 }
 
-/// Gives the record at a place as another name's, where it is of a type.
+/// Gives the record at a place as another name's, if it is of a type.
 fn give_one(
     alloc: Global,
     records: &[Record],
@@ -126,7 +126,7 @@ fn give(
     Ok(())
 }
 
-/// Gives an alias, with another owner where one is given, and goes to its target.
+/// Gives an alias, with another owner if one is given, and goes to its target.
 fn follow<'a>(
     alloc: Global,
     alias: &Record,
@@ -149,7 +149,7 @@ fn follow<'a>(
     }
 }
 
-/// The alias among the records of a name, where it is followed for a type.
+/// The alias among the records of a name, if it is followed for a type.
 fn alias_in<'a>(zone: &'a ZoneTree, rtype: u16, kinds: &Kinds) -> Option<&'a Record>
     ensures value { option_copied result ≡ followed_alias rtype (at_places zone.now.records (kind_places 5 kinds.now)) }
     ensures lawful { IfSome result (λ r. IsLawful r.now.rdata) }
@@ -253,7 +253,7 @@ fn at_missing<'a>(
     }
 }
 
-/// The target of a CNAME record that is made of a DNAME record, where it is followed for a type.
+/// The target of a CNAME record that is made of a DNAME record, if it is followed for a type.
 fn gone_to<'a>(rtype: u16, to: Name) -> Step<'a>
     ensures { (z : ZoneState) (go : List (List ℕ) → ZoneReply)
         → step_reply z go result ≡ (if follows rtype then go to else authoritative []) }
@@ -287,7 +287,7 @@ fn made_alias(
     })
 }
 
-/// Gives the CNAME record that is made of a DNAME record, where its target isn't too long, and goes to that.
+/// Gives the CNAME record that is made of a DNAME record, if its target isn't too long, and goes to that.
 fn substituted<'a>(
     alloc: Global,
     rtype: u16,
@@ -312,7 +312,7 @@ fn substituted<'a>(
     }
 }
 
-/// What a name below a DNAME record leads to, where that has a target.
+/// What a name below a DNAME record leads to, if that has a target.
 fn by_target<'a>(
     alloc: Global,
     rtype: u16,
@@ -364,7 +364,7 @@ fn at_dname<'a>(
     }
 }
 
-/// What a name leads to, where a type is asked for.
+/// What a name leads to, if a type is asked for.
 pub(crate) fn step_of<'a>(
     zone: &'a ZoneTree,
     alloc: Global,

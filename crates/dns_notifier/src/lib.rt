@@ -1,6 +1,6 @@
 //! NOTIFY to those who are to know of a new serial (RFC 1996), over sockets.
 //!
-//! - `Notifier` knows of which serials was told. `tell_changes` tells the addresses of each zone that is served with another
+//! - `Notifier` knows which serials were announced. `tell_changes` sends NOTIFY to the addresses of each zone that has another
 //!   serial than before. `look` takes the answers that came, and sends again what wasn't answered.
 //! - `serial_of` is the serial of a zone that is served.
 //!
@@ -8,8 +8,8 @@
 //! a new generation -> tell_changes -> NOTIFY -> look: answered | sent again | given up
 //! ```
 //!
-//! A NOTIFY is sent five times at most, 15 s after each other (RFC 1996, section 3.6). Each has a socket and an identifier of
-//! its own. What is told, answered and given up is logged. One address that can't be told doesn't keep the others from it.
+//! A NOTIFY is sent five times at most, 15 s after each other. RFC 1996, section 3.6, has 60 s and five repetitions as defaults. Each has a socket and an identifier of
+//! its own. What is sent, answered and given up is logged. An address to which nothing can be sent keeps no other from it.
 //!
 //! Moments are milliseconds since any moment that the owner picks.
 //!
@@ -19,7 +19,7 @@
 //!
 //! # What a body could still get away with
 //!
-//! No clause says what a socket gives or takes. That each address of a new serial is told is a test's matter (`tools/zoned`).
+//! No clause says what a socket gives or takes. That each address gets the NOTIFY of a new serial is a test's matter (`tools/zoned`).
 #![tactic(auto)]
 
 mod notifier;

@@ -1,4 +1,4 @@
-//! The serials of which was told.
+//! The serials that were announced.
 
 ghost use Rattle.std.specs.Prelude.{◌≡◌, option_map};
 
@@ -23,14 +23,14 @@ pub fn serial_of(summary: &ZoneSummary) -> Option<u32>
     }
 }
 
-/// A zone, and the serial of which was told.
+/// A zone, and the serial that was announced last.
 #[derive(Drop)]
 struct Known {
     apex: Name,
     serial: u32,
 }
 
-/// The serials of which was told, and those that didn't answer yet.
+/// The serials that were announced, and each NOTIFY that wasn't answered yet.
 #[derive(Drop)]
 pub struct Notifier {
     known: Vec<Known>,
@@ -38,7 +38,7 @@ pub struct Notifier {
 }
 
 impl Notifier {
-    /// One that tells nobody yet.
+    /// Nothing was announced yet.
     pub fn new(alloc: Global) -> Notifier {
         Notifier {
             known: Vec::new(alloc),
@@ -56,7 +56,7 @@ impl Notifier {
         false
     }
 
-    /// Tells those of an entry.
+    /// Sends NOTIFY to the addresses of an entry.
     fn tell<R: Net + RandomSource + Log>(
         &mut self,
         rt: &R,
@@ -78,7 +78,7 @@ impl Notifier {
         Ok(())
     }
 
-    /// Tells those who are to know of each zone of a configuration that is served with another serial than before. The summaries
+    /// Sends NOTIFY to the addresses of each zone of a configuration that is served with another serial than before. The summaries
     /// are those of its zones, in their order.
     pub fn tell_changes<R: Net + RandomSource + Log>(
         &mut self,

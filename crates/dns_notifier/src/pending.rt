@@ -9,7 +9,7 @@ use std::alloc::Global;
 use std::net::{Net, UdpSocket};
 use std::random::RandomSource;
 
-/// How often a NOTIFY is sent, and how long an answer is waited for each time (RFC 1996, section 3.6).
+/// How often a NOTIFY is sent, and how long an answer is waited for each time: sooner than the 60 s of RFC 1996, section 3.6.
 const TRIES: u8 = 5;
 
 const WAIT_MILLIS: u64 = 15_000;
@@ -37,7 +37,7 @@ pub(crate) enum NotifyState {
     GaveUp,
 }
 
-/// A socket from which an address can be told.
+/// A socket that is connected to an address.
 fn socket_for<R: Net>(net: &R, to: SocketAddr) -> anyhow::Result<UdpSocket> {
     let socket = UdpSocket::bind(net, to_std(unspecified_like(to)))?;
     socket.connect(to_std(to))?;
@@ -64,7 +64,7 @@ fn asking_of(alloc: Global, apex: &Name, id: u16, now: u64) -> anyhow::Result<As
 }
 
 impl PendingNotify {
-    /// Tells an address of a zone.
+    /// Sends an address the NOTIFY of a zone.
     pub(crate) fn begin<R: Net + RandomSource>(
         rt: &R,
         alloc: Global,
@@ -113,7 +113,7 @@ impl PendingNotify {
         }
     }
 
-    /// Looks whether it was answered, and sends it again where that is due.
+    /// Looks whether it was answered, and sends it again if that is due.
     pub(crate) fn look(&mut self, alloc: Global, now: u64) -> Result<NotifyState, OutOfMemory> {
         if let Some(code) = self.hear(alloc, now)? {
             return Ok(NotifyState::Answered(code));

@@ -49,7 +49,7 @@ module _ (bitmap : List ℕ) (first t : ℕ) where
   listed_from zero bit l e h = absurd (omega (arith, l))
   listed_from (suc n) bit l e h = list_any-append (nat_eq t) (first_types bitmap first n) (bit_type bitmap first n) ∙ listed_step n bit l e h (λ k. listed_from n bit k e h)
 
--- no bit is set behind the octets of a bitmap
+-- no bit is set after the octets of a bitmap
 zero_bit : (k : ℕ) → nat_eq (0 / 2 ^ k % 2) 1 ≡ false
 zero_bit k = ap (λ (x : ℕ). nat_eq (x % 2) 1) (zero-div (2 ^ k))
 

@@ -7,7 +7,7 @@ use Rattle.std.proofs.lemmas.List.Folds.{list_any-append}
 use Rattle.dns_nsec_data.specs.BitMaps.{AreBlocks, BeginWith, BeginWithNone, Block, SayNone, SayTypes, bit_maps, block_octets, first_types, says}
 use Rattle.dns_nsec_data.proofs.BitLaws.{block_read}
 
--- octets of which so many blocks are read; the windows that are left begin with a number
+-- octets of which that many blocks are read; the windows that are left begin with a number
 pub record AreRead (octets left : List ℕ) (low : ℕ) (types : List ℕ) : Type 0 where
   pub blocks : List Block
   pub lawful : (bs : List Block) → AreBlocks low bs → AreBlocks 0 (blocks ++ bs)
@@ -31,7 +31,7 @@ says_more t bs b = list_any-append (says t) bs (b ∷ []) ∙ ap (λ (x : Bool).
     or_nothing true = refl
     or_nothing false = refl
 
--- what is left behind octets of the same length is the same
+-- what is left after octets of the same length is the same
 same_left : (xs ys us vs : List ℕ) → length xs ≡ length ys → xs ++ us ≡ ys ++ vs → us ≡ vs
 same_left [] [] us vs l e = e
 same_left [] (y ∷ ys) us vs l e = absurd (omega (arith, l))

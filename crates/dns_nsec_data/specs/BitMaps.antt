@@ -41,7 +41,7 @@ pub record SayTypes (octets types : List ℕ) : Type 0 where
   pub octets_ : bit_maps blocks ≡ octets
   pub types_ : (t : ℕ) → list_any (nat_eq t) types ≡ list_any (says t) blocks
 
--- octets that are none
+-- octets that are no type bit maps
 abbrev pub SayNone : List ℕ → Type 0
 SayNone octets = (bs : List Block) → AreBlocks 0 bs → bit_maps bs ≡ octets → ⊥
 
@@ -54,11 +54,11 @@ pub record BeginWith (low : ℕ) (octets : List ℕ) (window : ℕ) (bitmap left
   pub lawful : IsBlock (record { window = window; bitmap = bitmap })
   pub short : length left < length octets
 
--- octets that don't
+-- octets that don't begin with a block
 abbrev pub BeginWithNone : ℕ → List ℕ → Type 0
 BeginWithNone low octets = (b : Block) (more : List ℕ) → low ≤ b.window → IsBlock b → block_octets b ++ more ≡ octets → ⊥
 
--- the type of a bit that is set, where the types of a bitmap begin with one
+-- the type of a bit that is set, if the types of a bitmap begin with one
 abbrev pub bit_type : List ℕ → ℕ → ℕ → List ℕ
 bit_type bitmap first bit = if has_bit bitmap bit then (first + bit) ∷ [] else []
 

@@ -15,13 +15,13 @@ use Rattle.dns_nsec_data.specs.declared.nsec_error.NsecError.TheVariants.{Malfor
 
 -- ---- data
 
--- "the next owner name", uncompressed (sections 4.1.1 and 6.2), and behind it the type bit maps
+-- "the next owner name", uncompressed (sections 4.1.1 and 6.2), and after it the type bit maps
 pub record SaysNext (octets : List ℕ) (next : List (List ℕ)) (types : List ℕ) : Type 0 where
   pub end : ℕ
   pub name : uncompressed_at octets 0 ≡ Ok (next, end)
   pub types_ : SayTypes (drop end octets) types
 
--- octets that are none
+-- octets that are no NSEC data: no name with type bit maps after it
 abbrev pub SaysNothing : List ℕ → Type 0
 SaysNothing octets = (next : List (List ℕ)) (end : ℕ) → uncompressed_at octets 0 ≡ Ok (next, end) → SayNone (drop end octets)
 
@@ -89,12 +89,12 @@ Fails rs NoMemory = Unit {0}
 
 -- ---- one record more
 
--- the NSEC of a record is kept; where there is none, so it is said
+-- the NSEC of a record is kept; if there is none, it says so
 abbrev pub KeepsOne : Record → List NsecState → List NsecState → Bool → Type 0
 KeepsOne r old new false = (n : NsecState) × IsNsec r n × (new ≡ old ++ n ∷ [])
 KeepsOne r old new true = IsNoNsec r
 
--- the NSECs of a record are kept, where it is no malformed one
+-- the NSECs of a record are kept, if it is no malformed one
 abbrev pub Keeps : Record → List NsecState → List NsecState → Bool → Type 0
 Keeps r old new false = (ns : List NsecState) × AreNsecs (nsec_records (r ∷ [])) ns × (new ≡ old ++ ns)
 Keeps r old new true = (is_of 47 r ≡ true) × IsNoNsec r

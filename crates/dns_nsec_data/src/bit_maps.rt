@@ -6,7 +6,7 @@ ghost use Rattle.dns_nsec_data.specs.BitMaps.{BeginWith, BeginWithNone, SayNone,
 use dns_name::OutOfMemory;
 use std::alloc::Global;
 
-/// A window block of type bit maps, and the octets behind it.
+/// A window block of type bit maps, and the octets after it.
 #[derive(Drop)]
 struct Block<'a> {
     window: u8,
@@ -49,7 +49,7 @@ fn push_types(bitmap: &[u8], first: u16, types: &mut Vec<u16>) -> Result<(), Out
     Ok(())
 }
 
-/// The first block of octets, where its number isn't below one.
+/// The first block of octets, if its number isn't below one.
 fn block_in(octets: &[u8], low: u16) -> Option<Block<'_>>
     ensures { MatchOption result (BeginWithNone low octets.now) (λ b. BeginWith low octets.now b.window b.bitmap.now b.left.now) }
 {
@@ -81,7 +81,7 @@ fn block_in(octets: &[u8], low: u16) -> Option<Block<'_>>
     })
 }
 
-/// The types of type bit maps, in rising order; none where octets are no such ones. No octets list no type.
+/// The types of type bit maps, in rising order; none if octets are no such ones. No octets list no type.
 pub fn types_in(alloc: Global, octets: &[u8]) -> Result<Option<Vec<u16>>, OutOfMemory>
     ensures { IfOk result (λ o. MatchOption o (SayNone octets.now) (λ v. SayTypes octets.now v.items)) }
 {

@@ -15,10 +15,10 @@
 //!
 //! - Types are read exactly if the octets are window blocks whose numbers rise. Each has a bitmap of 1 to 32 octets of which the
 //!   last isn't 0 (RFC 4034, section 4.1.2). They are exactly those whose bit is set. No octets list no type.
-//! - The `Nsec` of a record has the record's owner, the uncompressed name at which its data begins, and the types behind
+//! - The `Nsec` of a record has the record's owner, the uncompressed name at which its data begins, and the types after
 //!   that.
 //! - Of a list each NSEC record is read and no other one. A refused record is the first that isn't an NSEC.
-//! - A chain has these NSECs in canonical order, each once for each record. `Twice` comes only where two have one owner.
+//! - A chain has these NSECs in canonical order, each once for each record. `Twice` comes only if two have one owner.
 //!
 //! # What a body could still get away with
 //!

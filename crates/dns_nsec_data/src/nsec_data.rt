@@ -21,7 +21,7 @@ struct Next {
     types: Vec<u16>,
 }
 
-/// What NSEC data says; none where octets are no such data.
+/// What NSEC data says; none if octets are no such data.
 fn next_in(alloc: Global, octets: &[u8]) -> Result<Option<Next>, OutOfMemory>
     ensures { IfOk result (λ o. MatchOption o (SaysNothing octets.now) (λ d. SaysNext octets.now d.name d.types.items)) }
 {
@@ -47,7 +47,7 @@ pub(crate) fn unknown_octets(resource: &Record) -> &[u8]
     }
 }
 
-/// The NSEC that a record is; none where its data isn't that of one.
+/// The NSEC that a record is; none if its data isn't that of one.
 pub fn nsec_in(alloc: Global, resource: &Record) -> Result<Option<Nsec>, OutOfMemory>
     ensures { IfOk result (λ o. MatchOption o (IsNoNsec resource.now) (IsNsec resource.now)) }
 {
@@ -68,7 +68,7 @@ fn is_nsec(resource: &Record) -> bool
     resource.rdata.rtype().to_int() == NSEC
 }
 
-/// Keeps the NSEC of a record. Gives true, and keeps none, where its data isn't that of one.
+/// Keeps the NSEC of a record. Gives true, and keeps none, if its data isn't that of one.
 fn keep_one(alloc: Global, resource: &Record, nsecs: &mut Vec<Nsec>) -> Result<bool, OutOfMemory>
     ensures { IfOk result (KeepsOne resource.now nsecs.old.items nsecs.new.items) }
 {
@@ -81,7 +81,7 @@ fn keep_one(alloc: Global, resource: &Record, nsecs: &mut Vec<Nsec>) -> Result<b
     }
 }
 
-/// Keeps the NSEC of a record, if its type is NSEC. Gives true where its data isn't that of one.
+/// Keeps the NSEC of a record, if its type is NSEC. Gives true if its data isn't that of one.
 fn keep_nsec(alloc: Global, resource: &Record, nsecs: &mut Vec<Nsec>) -> Result<bool, OutOfMemory>
     ensures { IfOk result (Keeps resource.now nsecs.old.items nsecs.new.items) }
 {

@@ -1,4 +1,4 @@
--- What a push of a writer's octets does, where the octets are said otherwise.
+-- What a push of a writer's octets does, if the octets are said otherwise.
 use Rattle.std.proofs.Common.{ℕ, ◌+◌, ◌≤◌, List, length, Result, Ok, Err, ap}
 use Rattle.std.specs.Prelude.{⊤}
 use Rattle.dns_name.specs.declared.opt_error.BuildDataError.{BuildDataError}

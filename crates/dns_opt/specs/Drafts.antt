@@ -26,7 +26,7 @@ opened_opt b = record { head = zero_head; low = b.message.header.rcode; options 
 abbrev pub with_options : OptDraft → List ℕ → OptDraft
 with_options d o = record { head = d.head; low = d.low; options = o; room = d.room }
 
--- an option is pushed: refused LongOptData as into any list, then ShortBuf exactly where the message would pass its limit
+-- an option is pushed: refused LongOptData as into any list, then ShortBuf exactly if the message would pass its limit
 abbrev pub PushedIn : ℕ → List ℕ → OptDraft → OptDraft → Result ⊤ BuildDataError → Type 0
 PushedIn code d old new (Ok _) = Fits old.options (length d) × (length old.options + 4 + length d + 11 ≤ old.room)
     × (new ≡ with_options old (old.options ++ option_octets code d))
@@ -42,7 +42,7 @@ with_opt_record d b = with_additional b (opt_record (opt_state d.head d.options)
 abbrev pub with_opt : OptDraft → Built → Built
 with_opt d b = with_header (with_opt_record d b) (record b.message.header { rcode = d.low })
 
--- The record is put into a message that is bare of others; ShortBuf exactly where it would pass its limit, and a refused call
+-- The record is put into a message that is bare of others; ShortBuf exactly if it would pass its limit, and a refused call
 -- leaves the message as it was before.
 abbrev pub PutInto : OptDraft → Built → Built → Built → Result ⊤ BuildDataError → Type 0
 PutInto d bare old new (Ok _) = (new ≡ with_opt d bare) × (length (wire (with_opt_record d bare).message) ≤ bare.limit)
@@ -55,7 +55,7 @@ PutInto d bare old new (Err (WrongLength s w)) = ⊥
 abbrev pub Appended : OptDraft → Built → Built → Result ⊤ BuildDataError → Type 0
 Appended d old new result = PutInto d old old new result
 
--- What comes of a message whose OPT record a closure built, where it gave an answer and left a draft.
+-- What comes of a message whose OPT record a closure built, if it gave an answer and left a draft.
 abbrev pub EndsIn : Result ⊤ BuildDataError → OptDraft → Built → Built → Built → Result ⊤ BuildDataError → Type 0
 EndsIn (Err e) d bare old new result = (result ≡ Err e) × (new ≡ old)
 EndsIn (Ok _) d bare old new result = PutInto d bare old new result
@@ -75,11 +75,11 @@ abbrev pub BuiltFitting : Bool → (OptDraft → Result ⊤ BuildDataError → O
 BuiltFitting false calls old new result = (result ≡ Err ShortBuf) × (new ≡ old)
 BuiltFitting true calls old new result = IsBuiltOpt calls old new result
 
--- ShortBuf where not even an empty OPT record, of eleven octets, has room; else as the closure builds it
+-- ShortBuf if not even an empty OPT record, of eleven octets, has room; else as the closure builds it
 abbrev pub BuiltOpt : (OptDraft → Result ⊤ BuildDataError → OptDraft → Type 0) → Built → Built → Result ⊤ BuildDataError → Type 0
 BuiltOpt calls old new result = BuiltFitting (nat_le 11 (room_of old)) calls old new result
 
--- head and options are those of another record; ShortBuf exactly where the message would pass its limit
+-- head and options are those of another record; ShortBuf exactly if the message would pass its limit
 abbrev pub Cloned : OptState → OptDraft → OptDraft → Result ⊤ BuildDataError → Type 0
 Cloned s old new (Ok _) = (length s.options + 11 ≤ old.room)
     × (new ≡ record { head = s.head; low = old.low; options = s.options; room = old.room })

@@ -40,7 +40,7 @@ head_in d = record {
   flags = be16 (slice_index d 7) (slice_index d 8);
 }
 
--- the head that stands behind one octet of name and two of type
+-- the head that stands after one octet of name and two of type
 abbrev pub head_of : List ℕ → Result OptHead ParseError
 head_of d = if nat_lt (length d) 9 then Err ShortInput else Ok (head_in d)
 
@@ -65,7 +65,7 @@ opt_record s = record {
 abbrev pub head_by : ℕ → ℕ → OptHead
 head_by class ttl = record { size = class; ext = ttl / 16777216; version = ttl / 65536 % 256; flags = ttl % 65536 }
 
--- the OPT record of a head and an option list, none where the octets were refused as one
+-- the OPT record of a head and an option list, none if the octets were refused as one
 abbrev pub opt_with : OptHead → Result (List ℕ) ParseError → Option OptState
 opt_with h (Ok o) = Some (opt_state h o)
 opt_with h (Err e) = None
@@ -74,18 +74,18 @@ abbrev pub from_data : OptHead → RecordData → Option OptState
 from_data h (OptList o) = opt_with h (option_list o)
 from_data h _ = None
 
--- the OPT record that a record is, none where its type is another or its data is no option list
+-- the OPT record that a record is, none if its type is another or its data is no option list
 abbrev pub from_record : Record → Option OptState
 from_record r = from_data (head_by r.class r.ttl) r.rdata
 
 -- ---- the OPT record of a message
 
--- the record, where octets are an option list
+-- the record, if octets are an option list
 abbrev pub where_list : ResourceRecord → Result (List ℕ) ParseError → Option ResourceRecord
 where_list r (Ok o) = Some r
 where_list r (Err e) = None
 
--- the record, where its data is an option list
+-- the record, if its data is an option list
 abbrev pub listed : ResourceRecord → Option ResourceRecord
 listed r = where_list r (option_list r.rdata)
 
@@ -93,11 +93,11 @@ listed r = where_list r (option_list r.rdata)
 abbrev pub opt_state_of : ResourceRecord → OptState
 opt_state_of r = opt_state (head_by r.class r.ttl) r.rdata
 
--- the head and the options of a record, none where its data is no option list
+-- the head and the options of a record, none if its data is no option list
 abbrev pub readable_opt : ResourceRecord → Option OptState
 readable_opt r = option_map opt_state_of (listed r)
 
--- the first record of type OPT, none where it, or a record before it, is unreadable
+-- the first record of type OPT, none if it, or a record before it, is unreadable
 abbrev pub first_opt : List (Result Standing ParseError) → Option OptState
 first_opt [] = None
 first_opt (Err e ∷ more) = None
@@ -107,13 +107,13 @@ abbrev pub opt_in : Result (List (Result Standing ParseError)) ParseError → Op
 opt_in (Ok more) = first_opt more
 opt_in (Err e) = None
 
--- the OPT record of octets that are a message; none where its additional section can't be reached
+-- the OPT record of octets that are a message; none if its additional section can't be reached
 abbrev pub opt_of : List ℕ → Option OptState
 opt_of o = opt_in (reached (authority_of o).1 (standing_additional o))
 
 -- ---- the OPT record among records
 
--- the first record of type OPT, as it stands; none where its data is no option list
+-- the first record of type OPT, as it stands; none if its data is no option list
 abbrev pub opt_record_among : List ResourceRecord → Option ResourceRecord
 opt_record_among [] = None
 opt_record_among (r ∷ rs) = if nat_eq r.rtype 41 then listed r else opt_record_among rs

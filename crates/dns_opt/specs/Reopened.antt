@@ -8,11 +8,11 @@ use Rattle.dns_base.specs.Replaced.{less_type}
 use Rattle.dns_opt.specs.Drafts.{OptDraft, EndsIn, room_of}
 use Rattle.dns_opt.specs.OptRecords.{OptState, opt_record_among, opt_state, opt_state_of, zero_head}
 
--- the first record of type OPT; none where its data is no option list
+-- the first record of type OPT; none if its data is no option list
 abbrev pub opt_among : List ResourceRecord → Option OptState
 opt_among rs = option_map opt_state_of (opt_record_among rs)
 
--- a record, or one with zeros and no options where there is none
+-- a record, or one with zeros and no options if there is none
 abbrev pub opt_or_empty : Option OptState → OptState
 opt_or_empty found = unwrap_or found (opt_state zero_head [])
 
@@ -40,7 +40,7 @@ pub record IsReopened (calls : OptDraft → Result ⊤ BuildDataError → OptDra
   pub met : calls (reopened old) answer left
   pub ends : EndsIn answer left (less_opts old) old new result
 
--- where memory is wanting the closure need not be called
+-- if memory runs out the closure need not be called
 abbrev pub Reopens : (OptDraft → Result ⊤ BuildDataError → OptDraft → Type 0) → Built → Built → Result ⊤ BuildDataError → Type 0
 Reopens calls old new (Ok u) = IsReopened calls old new (Ok u)
 Reopens calls old new (Err NoMemory) = new ≡ old

@@ -21,11 +21,11 @@ pub trait BuildOpt {
     /// The message that is under construction, and its limit.
     ghost built: { Self → Built };
 
-    /// The first OPT record; none where its data is no option list. Only the additional records are read.
+    /// The first OPT record; none if its data is no option list. Only the additional records are read.
     fn opt_record(&self) -> Option<OptRecordRef<'_>>
         ensures { result ≡ opt_among (built self.now).message.additional };
 
-    /// Appends one OPT record as the closure builds it. Where anything is refused, the message is as before.
+    /// Appends one OPT record as the closure builds it. If anything is refused, the message is as before.
     fn opt<F: FnOnce(&mut OptBuilder) -> Result<(), BuildDataError>>(
         &mut self,
         alloc: Global,
@@ -34,9 +34,9 @@ pub trait BuildOpt {
         requires { F.IsAlwaysCallable build }
         ensures { BuiltOpt (FnOnceReturnsAtMut F.FnOnce build) (built self.old) (built self.new) result };
 
-    /// Builds on the message's first OPT record, or on an empty one where there is none or its data is no option
+    /// Builds on the message's first OPT record, or on an empty one if there is none or its data is no option
     /// list; what the closure leaves takes the place of the OPT records, as the last additional record. The options
-    /// have the room of the message without its OPT records. Where anything is refused, the message is as before.
+    /// have the room of the message without its OPT records. If anything is refused, the message is as before.
     fn reopen<F: FnOnce(&mut OptBuilder) -> Result<(), BuildDataError>>(
         &mut self,
         alloc: Global,

@@ -135,7 +135,7 @@ impl OptBuilder {
     }
 }
 
-/// Why an option of so many octets is refused where the message has no room for it. The closure is called, and what it
+/// Why an option of that many octets is refused if the message has no room for it. The closure is called, and what it
 /// writes isn't kept.
 fn refused_without_room<F: FnOnce(&mut Vec<u8>) -> Result<(), OutOfMemory>>(
     alloc: Global,

@@ -187,7 +187,7 @@ impl OptBuilder {
         self.push(alloc, &subnet)
     }
 
-    /// Appends padding of so many zeros (RFC 7830).
+    /// Appends padding of that many zeros (RFC 7830).
     pub fn padding(&mut self, alloc: Global, len: u16) -> Result<(), BuildDataError>
         ensures { PushedIn 12 (replicate len 0) self.old self.new result }
     {

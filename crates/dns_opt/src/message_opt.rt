@@ -12,12 +12,12 @@ pub trait MessageOpt {
     /// The message's octets.
     ghost octets: { Self → List ℕ };
 
-    /// The first OPT record; none where it, or a record before it, is unreadable.
+    /// The first OPT record; none if it, or a record before it, is unreadable.
     fn opt(&self) -> Option<OptRecordRef<'_>>
         ensures { result ≡ opt_of (octets self.now) };
 }
 
-/// The OPT record that a record of this type is; none where its data is no option list.
+/// The OPT record that a record of this type is; none if its data is no option list.
 fn readable<'m>(found: &RecordRef<'m>) -> Option<OptRecordRef<'m>>
     ensures { result ≡ readable_opt found.now.resource }
 {
@@ -40,7 +40,7 @@ pub(crate) fn first_opt(records: RecordIter<'_>) -> Option<OptRecordRef<'_>>
     None
 }
 
-/// The first OPT record of a borrowed message, which lives as long as the message; none where it, or a record before it,
+/// The first OPT record of a borrowed message, which lives as long as the message; none if it, or a record before it,
 /// is unreadable.
 pub fn opt_of<'m>(message: &MessageRef<'m>) -> Option<OptRecordRef<'m>>
     ensures { result ≡ opt_of message.now }

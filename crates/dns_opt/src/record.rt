@@ -53,7 +53,7 @@ pub(crate) fn head_by(class: Class, ttl: Ttl) -> OptHeader
     }
 }
 
-/// The OPT record of a head and the data of a record; none where the data is of another type, or no option list.
+/// The OPT record of a head and the data of a record; none if the data is of another type, or no option list.
 fn from_data(head: OptHeader, rdata: RecordData) -> Option<OptRecord>
     ensures { result ≡ from_data head rdata }
 {
@@ -114,7 +114,7 @@ impl OptRecord {
         }
     }
 
-    /// The OPT record that a record is; none where its type is another, or its data no option list.
+    /// The OPT record that a record is; none if its type is another, or its data no option list.
     pub fn from_record(source: Record) -> Option<OptRecord>
         ensures { result ≡ from_record source }
     {
@@ -189,7 +189,7 @@ impl OptRecord {
         record_by(alloc, self.head, options)
     }
 
-    /// Appends the record to a message, where it is written at once: no memory is taken but the message's.
+    /// Appends the record to a message, if it is written at once: no memory is taken but the message's.
     pub fn append_to(&self, alloc: Global, message: &mut AdditionalBuilder) -> Result<(), PushError>
         ensures { Pushes message.old message.new (with_additional message.old (opt_record self.now)) result }
     {

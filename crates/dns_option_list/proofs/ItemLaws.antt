@@ -13,7 +13,7 @@ items_map : {X : Type 0} (t : ℕ → List ℕ → Option (Taken X)) (c : ℕ) (
 items_map t c d None h = cc
 items_map t c d (Some ps) h = refl
 
--- the first option's value in front of those behind it
+-- the first option's value in front of those after it
 pub items_some : {X : Type 0} (t : ℕ → List ℕ → Option (Taken X)) (o : List ℕ) (c : ℕ) (d r : List ℕ) → IsOptionList o → first_option o ≡ Some (c, d, r) → items_of t o ≡ with_item (kind t c d) (items_of t r)
 items_some t o c d r h e = ap (λ x. items t (unwrap_or x [])) (options_some o c d r e) ∙ items_map t c d (options r) (sym (list_step o c d r e) ∙ h)
 

@@ -1,4 +1,4 @@
--- Option lists are their options, one behind another.
+-- Option lists are their options, one after another.
 use Rattle.std.proofs.Common.{◌≡◌, ℕ, zero, suc, ◌/◌, ◌%◌, ◌≤◌, ◌<◌, ◌↔◌, List, [], ◌∷◌, ◌++◌, length, take, drop, Some, None, sym, ap, ◌∙◌, arith, nat_le, subst, inl, inr, length-take-le}
 use Rattle.std.proofs.lemmas.Bool.{leb-true}
 use Rattle.std.proofs.lemmas.List.{take-append-drop}
@@ -74,11 +74,11 @@ joined_back (suc k) (x ∷ o) ps h a e = elim (shown (first_option (x ∷ o))) [
       f.0 ∙ (ap (λ r. option_octets t.0 t.1.0 ++ r) i ∙ ap options_octets q.2)
 ]
 
--- octets are certain options exactly where they are these, joined
+-- octets are certain options exactly if they are these, joined
 pub options_joined : (o : List ℕ) (ps : List (ℕ × List ℕ)) → Octets o → (options o ≡ Some ps) ↔ (o ≡ options_octets ps)
 options_joined o ps a = ((λ e. joined_back (length o) o ps (omega arith) a e), (λ e. ap options e ∙ joined_read ps))
 
--- and a list exactly where there are such
+-- and a list exactly if there are such
 pub list_joined : (o : List ℕ) → Octets o → IsOptionList o ↔ ((ps : List (ℕ × List ℕ)) × (o ≡ options_octets ps))
 list_joined o a = (
   (λ l. let q = some_of (options o) l in (q.0, joined_back (length o) o q.0 (omega arith) a q.1)),

@@ -4,7 +4,7 @@ use Rattle.dns_name.specs.declared.error.ParseError.{ParseError}
 use Rattle.dns_name.specs.OptData.{Taken, all_taken, kind}
 use Rattle.dns_message.specs.Options.{options, option_list}
 
--- an option's value in front of those behind it; none where it is not read, and a refusal is the last
+-- an option's value in front of those after it; none if it is not read, and a refusal is the last
 abbrev pub with_item : {X : Type 0} → Option (Result X ParseError) → List (Result X ParseError) → List (Result X ParseError)
 with_item None more = more
 with_item (Some (Ok x)) more = Ok x ∷ more
@@ -15,11 +15,11 @@ abbrev pub items : {X : Type 0} → (ℕ → List ℕ → Option (Taken X)) → 
 items takes [] = []
 items takes (p ∷ ps) = with_item (kind takes p.0 p.1) (items takes ps)
 
--- of octets, none where they are no list
+-- of octets, none if they are no list
 abbrev pub items_of : {X : Type 0} → (ℕ → List ℕ → Option (Taken X)) → List ℕ → List (Result X ParseError)
 items_of takes o = items takes (unwrap_or (options o) [])
 
--- the first value, none where it is refused
+-- the first value, none if it is refused
 abbrev pub first_ok : {X : Type 0} → List (Result X ParseError) → Option X
 first_ok [] = None
 first_ok (Ok x ∷ xs) = Some x

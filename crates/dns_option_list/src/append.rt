@@ -19,7 +19,7 @@ fn header(code: u16, len: u16) -> [u8; 4]
     ]
 }
 
-/// Appends an option. Where want of memory refuses it, the vector is as before.
+/// Appends an option. If it is refused because memory ran out, the vector is as before.
 pub fn append_value<D: ComposeOptData>(
     alloc: Global,
     octets: &mut Vec<u8>,
@@ -37,7 +37,7 @@ pub fn append_value<D: ComposeOptData>(
     Ok(())
 }
 
-/// Appends an option's code and length and its data. Where want of memory refuses it, the vector is as before.
+/// Appends an option's code and length and its data. If it is refused because memory ran out, the vector is as before.
 pub fn append_option(octets: &mut Vec<u8>, code: u16, added: &[u8]) -> Result<(), OutOfMemory>
     requires { length added.now ≤ 65535 }
     ensures { octets.new.items ≡ (if is_ok result then octets.old.items ++ option_octets code added.now else octets.old.items) }
@@ -49,7 +49,7 @@ pub fn append_option(octets: &mut Vec<u8>, code: u16, added: &[u8]) -> Result<()
 }
 
 /// Calls a writer once on an empty vector, and gives what it wrote there, as `push_raw_option` does before it looks at the
-/// length. Where the writer is refused, so is the call.
+/// length. If the writer is refused, so is the call.
 pub fn written_by<F: FnOnce(&mut Vec<u8>) -> Result<(), OutOfMemory>>(
     alloc: Global,
     write: F,
@@ -62,8 +62,8 @@ pub fn written_by<F: FnOnce(&mut Vec<u8>) -> Result<(), OutOfMemory>>(
     Ok(octets)
 }
 
-/// Calls a writer as `written_by` does, and gives what it wrote: as Ok where that is as many octets as are stated, and else as
-/// Err. Where the writer is refused, so is the call.
+/// Calls a writer as `written_by` does, and gives what it wrote: as Ok if that is as many octets as are stated, and else as
+/// Err. If the writer is refused, so is the call.
 pub fn written_as_stated<F: FnOnce(&mut Vec<u8>) -> Result<(), OutOfMemory>>(
     alloc: Global,
     len: u16,

@@ -8,7 +8,7 @@ use Rattle.dns_message.specs.Options.{option_octets}
 abbrev pub Fits : List ℕ → ℕ → Type 0
 Fits old n = length old + 4 + n ≤ 65535
 
--- an option is appended; refused LongOptData exactly where it doesn't fit, and a refused push leaves the list
+-- an option is appended; refused LongOptData exactly if it doesn't fit, and a refused push leaves the list
 abbrev pub Pushed : ℕ → List ℕ → List ℕ → List ℕ → Result ⊤ BuildDataError → Type 0
 Pushed code d old new (Ok _) = Fits old (length d) × (new ≡ old ++ option_octets code d)
 Pushed code d old new (Err LongOptData) = (65535 < length old + 4 + length d) × (new ≡ old)

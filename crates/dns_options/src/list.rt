@@ -109,7 +109,7 @@ impl<'a> HeldOpt<&'a [u8]> {
         OptIter::of(self.octets.lent())
     }
 
-    /// The first option that the type D reads; none where it is refused.
+    /// The first option that the type D reads; none if it is refused.
     pub fn first<D: ParseOptData<'a> + Drop>(&self) -> Option<D>
         ensures { result ≡ first_ok (items_of D.takes self.now) }
     {

@@ -65,7 +65,7 @@ impl HeldOpt<Vec<u8>> {
         self.for_slice_ref().iter::<D>()
     }
 
-    /// The first option that the type D reads; none where it is refused.
+    /// The first option that the type D reads; none if it is refused.
     pub fn first<'a, D: ParseOptData<'a> + Drop>(&'a self) -> Option<D>
         ensures { result ≡ first_ok (items_of D.takes self.now) }
     {

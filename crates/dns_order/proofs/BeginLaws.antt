@@ -1,4 +1,4 @@
--- Keys are the same where names are, and begin with those of the names above alone.
+-- Keys are the same if names are, and begin with those of the names above alone.
 use Rattle.std.proofs.Common.{◌≡◌, ℕ, zero, suc, ◌+◌, ◌-◌, true, List, [], ◌∷◌, ◌++◌, length, map, reverse, take, drop, refl, ap, sym, ◌∙◌, arith, append_assoc, length-append}
 use Rattle.std.specs.Cmp.Lexicographic.{bytes_decides, slice_cmp, texts_ties}
 use Rattle.std.specs.Ordering.{is_eq, nat_cmp, ordering_then}

@@ -1,5 +1,5 @@
 -- Octets that compare as names do in the canonical order (RFC 4034, section 6.1): labels from the last to the first, in lower case,
--- each behind it an octet 0, which no octet of a label is written as. The octets of a name begin with those of each name that it ends
+-- each after it an octet 0, which no octet of a label is written as. The octets of a name begin with those of each name that it ends
 -- with.
 use Rattle.std.specs.Prelude.{ℕ, ◌≡◌, ◌↔◌, List, [], ◌∷◌, ◌++◌, nat_lt, if◌then◌else◌}
 use Rattle.std.specs.Cmp.Lexicographic.{slice_cmp}
@@ -27,14 +27,14 @@ canonical_key name = labels_key (from_last name)
 abbrev pub KeysBeginAlike : Type 0
 KeysBeginAlike = (below above : List (List ℕ)) → canonical_key (below ++ above) ≡ canonical_key above ++ labels_key (from_last below)
 
--- and with that of no other
+-- a key begins with another
 abbrev pub BeginsWith : List ℕ → List ℕ → Type 0
 BeginsWith key front = (rest : List ℕ) × (key ≡ front ++ rest)
 
 abbrev pub KeysBeginAbove : Type 0
 KeysBeginAbove = (a b : List (List ℕ)) → BeginsWith (canonical_key a) (canonical_key b) ↔ EndsWith a b
 
--- keys are the same exactly where the names are, up to ASCII case
+-- keys are the same exactly if the names are, up to ASCII case
 abbrev pub KeysAreNames : Type 0
 KeysAreNames = (a b : List (List ℕ)) → bytes_eq (canonical_key a) (canonical_key b) ≡ same_name a b
 

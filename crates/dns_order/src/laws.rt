@@ -2,7 +2,7 @@
 
 ghost use Rattle.dns_order.specs.Keys.{KeysAreNames, KeysAreOrdered, KeysBeginAbove, KeysBeginAlike};
 
-/// The keys of names compare as octets where the names compare in the canonical order.
+/// The keys of names compare as octets just as the names compare in the canonical order.
 pub fn keys_are_ordered()
     ensures { KeysAreOrdered }
 {}
@@ -13,13 +13,13 @@ pub fn keys_begin_alike()
     ensures { KeysBeginAlike }
 {}
 
-/// Keys are the same exactly where the names are, up to ASCII case.
+/// Keys are the same exactly if the names are, up to ASCII case.
 #[tactic(auto, using(crate::proofs::BeginLaws::keys_are_names))]
 pub fn keys_are_names()
     ensures { KeysAreNames }
 {}
 
-/// A key begins with another exactly where its name ends with the other's.
+/// A key begins with another exactly if its name ends with the other's.
 pub fn keys_begin_above()
     ensures { KeysBeginAbove }
 {}

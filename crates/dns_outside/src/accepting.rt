@@ -10,7 +10,7 @@ use std::io::ErrorKind;
 use std::net::{self, IpAddr, Ipv4Addr, Ipv6Addr};
 use std::os::fd::{AsRawFd, OwnedFd};
 
-/// Accepts a connection whose calls don't wait, and says where it comes from. `WouldBlock` where none is there.
+/// Accepts a connection whose calls don't wait, and says where it comes from. `WouldBlock` if none is there.
 pub(crate) fn accept_without_waiting(
     listener: &TcpListener,
 ) -> io::Result<(TcpStream, SocketAddr)> {

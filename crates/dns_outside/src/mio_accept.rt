@@ -15,7 +15,7 @@ use std::net::Net;
 use std::sync::Wait;
 
 /// A TCP listener, which tells nothing and counts its failed calls. A connection of which no link can be made is closed,
-/// and the call fails. A wait is for a connection, but for the first one after a failed call: where no descriptor is left, the
+/// and the call fails. A wait is for a connection, except for the first one after a failed call: if no descriptor is left, the
 /// connection that can't be accepted is there all the time, and would end each wait at once.
 #[derive(Drop)]
 pub struct MioAccept {

@@ -13,7 +13,7 @@ use std::sync::Wait;
 
 /// A TCP connection, which tells nothing and counts its failed calls. A call that was interrupted, and a read that took too long,
 /// answer Again. Every other error of the stream is a failed call, and so is a write that takes nothing of a piece that is not empty.
-/// A wait is for room where the last write answered Again, and else for something to read. Closing ends the connection both ways
+/// A wait is for room if the last write answered Again, and else for something to read. Closing ends the connection both ways
 /// and closes its descriptor. What is read or written after that is a failed call.
 #[derive(Drop)]
 pub struct MioLink {

@@ -18,7 +18,7 @@ const ASKS: usize = 64;
 
 /// A UDP socket, which tells nothing and counts its failed calls. A call that was interrupted, and a receive that took too long,
 /// answer Again; a send of less than the datagram is a failed call.
-/// A wait is for a datagram, but for the first one after a send that answered Again, which is for room alone. While datagrams
+/// A wait is for a datagram, except for the first one after a send that answered Again, which is for room alone. While datagrams
 /// follow each other closely the socket is asked for the next one a few times before the system waits for it.
 #[derive(Drop)]
 pub struct MioSock {

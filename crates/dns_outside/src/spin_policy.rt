@@ -5,12 +5,12 @@ ghost use Rattle.std.specs.Prelude.{◌≡◌, ◌+◌, if◌then◌else◌, min
 /// How many waits in a row may be begun in vain by asking.
 const WORTHWHILE: u32 = 8;
 
-/// Behind those, about one wait in so many is begun by asking.
+/// After those, about one wait in that many is begun by asking.
 const SELDOM: u32 = 64;
 
 /// Whether it is worthwhile to ask a socket again and again for a moment before the system waits for it. To sleep and to be woken
-/// is dearer than that moment where the next datagram comes within it; so it is asked as long as one of the last few waits ended
-/// by asking, and now and then behind that.
+/// is dearer than that moment if the next datagram comes within it; so it is asked as long as one of the last few waits ended
+/// by asking, and now and then after that.
 #[derive(Drop)]
 pub(crate) struct SpinPolicy {
     // How many waits there were since one ended by asking.

@@ -17,7 +17,7 @@ pub(crate) fn is_read_again(error: &io::Error) -> bool {
     is_again(error) || error.kind() == ErrorKind::TimedOut
 }
 
-/// Waits until a descriptor is ready for one of these events, but no longer than so many milliseconds, and 24 days. It may
+/// Waits until a descriptor is ready for one of these events, but no longer than that many milliseconds, and 24 days. It may
 /// return sooner.
 fn wait_for(fd: i32, events: i16, millis: u64) {
     let mut asked = [pollfd {
@@ -29,17 +29,17 @@ fn wait_for(fd: i32, events: i16, millis: u64) {
     let _ready = c::poll(&mut asked, millis);
 }
 
-/// Waits so many milliseconds, and for no descriptor.
+/// Waits that many milliseconds, and for no descriptor.
 pub(crate) fn wait_out<R: Wait>(_rt: &R, millis: u64) {
     wait_for(-1, 0, millis);
 }
 
-/// Waits until there is something to read, or to accept, but no longer than so many milliseconds.
+/// Waits until there is something to read, or to accept, but no longer than that many milliseconds.
 pub(crate) fn wait_to_read<R: Wait, S: AsRawFd>(_rt: &R, socket: &S, millis: u64) {
     wait_for(socket.as_raw_fd(), c::POLLIN, millis);
 }
 
-/// Waits until there is room to write, and for that alone, but no longer than so many milliseconds.
+/// Waits until there is room to write, and for that alone, but no longer than that many milliseconds.
 pub(crate) fn wait_for_room<R: Wait, S: AsRawFd>(_rt: &R, socket: &S, millis: u64) {
     wait_for(socket.as_raw_fd(), c::POLLOUT, millis);
 }

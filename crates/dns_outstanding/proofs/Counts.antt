@@ -1,4 +1,4 @@
--- How often a question is asked, behind one question more and without those of a place.
+-- How often a question is asked, after one question more and without those of a place.
 use Rattle.std.proofs.Common.{◌≡◌, ◌≤◌, ◌+◌, ℕ, Bool, true, false, not, cond, List, [], ◌∷◌, ◌++◌, refl, ap, sym, subst, ◌∙◌, arith}
 use Rattle.std.specs.Prelude.{◌||◌}
 use Rattle.std.specs.List.{count_by, filter, list_any}

@@ -23,7 +23,7 @@ own_state size dnssec s = opt_state (own_head size dnssec s.head) s.options
 abbrev pub stating : ℕ → Bool → Msg → Msg
 stating size dnssec m = record m { additional = one_opt m.additional (own_state size dnssec (old_opt m)) }
 
--- where it has at most 65,535 octets then
+-- if it has at most 65,535 octets then
 abbrev pub stated : ℕ → Bool → Msg → Msg
 stated size dnssec m = if nat_le (length (wire (stating size dnssec m))) 65535 then stating size dnssec m else m
 

@@ -16,7 +16,7 @@ pub struct OwnOptSvc<S> {
 }
 
 impl<S> OwnOptSvc<S> {
-    /// Round a service, for a server that takes so many octets over UDP.
+    /// Round a service, for a server that takes that many octets over UDP.
     pub fn new(next: S, size: u16) -> Self
         ensures { result ≡ record { next = next; size = size } }
     {

@@ -1,4 +1,4 @@
--- The data of a record as octets: fields, each of one word, and what the words behind them are.
+-- The data of a record as octets: fields, each of one word, and what the words after them are.
 use Rattle.std.specs.Prelude.{ℕ, Bool, true, false, ◌==◌, List, [], ◌∷◌, ◌++◌, length, nat_eq, nat_le, nat_lt, if◌then◌else◌, Option, Some, None, Result, Ok, Err, codes}
 use Rattle.std.specs.Str.{bytes_eq}
 use Rattle.hex.specs.Hex.{decode_of}
@@ -43,7 +43,7 @@ moment_in w = of_bare Time moment w
 abbrev pub type_in : Word → LineRead ℕ
 type_in w = of_bare UnknownType type_of w
 
--- a string behind its length
+-- a string after its length
 abbrev pub behind_length : ℕ → List ℕ → LineRead (List ℕ)
 behind_length line o = if nat_lt 255 (length o) then Err (line, LongString) else Ok (length o ∷ o)
 
@@ -54,11 +54,11 @@ counted_string w = string_in w >>= behind_length w.line
 abbrev pub hex_octets : ℕ → List ℕ → LineRead (List ℕ)
 hex_octets line o = some_or line NotHex (ok (decode_of o))
 
--- octets behind their length, where the hyphen stands for none (RFC 5155, section 3.3)
+-- octets after their length, where the hyphen stands for none (RFC 5155, section 3.3)
 abbrev pub salt_in : Word → LineRead (List ℕ)
 salt_in w = bare w >>= λ o. if bytes_eq o (codes "-") then Ok (0 ∷ []) else (hex_octets w.line o >>= behind_length w.line)
 
--- digits of base32hex, as octets behind their length (RFC 5155, section 3.3)
+-- digits of base32hex, as octets after their length (RFC 5155, section 3.3)
 abbrev pub hashed_in : Word → LineRead (List ℕ)
 hashed_in w = of_bare NotBase32 base32_octets w >>= behind_length w.line
 
@@ -82,11 +82,11 @@ field_octets origin Algorithm w = algorithm_in w >>= λ n. Ok (n ∷ [])
 abbrev pub more : List ℕ → LineRead (List ℕ) → LineRead (List ℕ)
 more front read = read >>= λ o. Ok (front ++ o)
 
--- the octets so far and those of one field more, and the words behind it
+-- the octets so far and those of one field more, and the words after it
 abbrev pub one_field : List (List ℕ) → ℕ → List ℕ → Field → List Word → LineRead (List ℕ × List Word)
 one_field origin line octets f ws = first_word line ws >>= λ w. more octets (field_octets origin f w.0) >>= λ o. Ok (o, w.1)
 
--- the octets so far and those of more fields, and the words behind them
+-- the octets so far and those of more fields, and the words after them
 abbrev pub fields_after : List (List ℕ) → ℕ → List ℕ → List Field → List Word → LineRead (List ℕ × List Word)
 fields_after origin line octets [] ws = Ok (octets, ws)
 fields_after origin line octets (f ∷ fs) ws = one_field origin line octets f ws >>= λ x. fields_after origin line x.0 fs x.1
@@ -110,7 +110,7 @@ hex_words line ws = decoded NotHex (λ o. ok (decode_of o)) line ws
 abbrev pub base64_words : ℕ → List Word → LineRead (List ℕ)
 base64_words line ws = decoded NotBase64 (λ o. ok (base64_of standard o)) line ws
 
--- a type behind others
+-- a type after others
 abbrev pub one_type : List ℕ → Word → LineRead (List ℕ)
 one_type types w = type_in w >>= λ t. Ok (types ++ t ∷ [])
 

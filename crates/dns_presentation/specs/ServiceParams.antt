@@ -13,7 +13,7 @@ use Rattle.dns_entries.specs.declared.reason.EntryReason.TheVariants.{Escape, Le
 use Rattle.dns_presentation.specs.declared.param_values.Item.{Item}
 use Rattle.dns_presentation.specs.declared.param_values.Item.TheVariants.{Key, Protocol, Short, Long}
 
--- a key by its name, or by its number behind `key` (RFC 9460, section 14.3.2)
+-- a key by its name, or by its number after `key` (RFC 9460, section 14.3.2)
 abbrev pub numbered_key : List ℕ → Option ℕ
 numbered_key w = if bytes_eq (take 3 w) (codes "key") then number_below 65535 (drop 3 w) else None
 
@@ -32,7 +32,7 @@ param_key w =
 
 -- ---- values
 
--- a protocol behind its length, which isn't zero (RFC 9460, section 7.1.1)
+-- a protocol after its length, which isn't zero (RFC 9460, section 7.1.1)
 abbrev pub protocol_octets : List ℕ → Option (List ℕ)
 protocol_octets w = if nat_eq (length w) 0 then None else if nat_lt 255 (length w) then None else Some (length w ∷ w)
 
@@ -45,7 +45,7 @@ item_octets Long w = long_address w
 abbrev pub item_behind : Item → List ℕ → List ℕ → Option (List ℕ)
 item_behind kind octets w = item_octets kind w >>? λ o. Some (octets ++ o)
 
--- Items that commas part; an octet behind a backslash is one of an item (RFC 9460, appendix A.1). The state is whether a backslash
+-- Items that commas part; an octet after a backslash is one of an item (RFC 9460, appendix A.1). The state is whether a backslash
 -- stands before, the octets of the items so far, and the item to come.
 abbrev pub item_step : Item → Bool → List ℕ → List ℕ → ℕ → Option (Bool × List ℕ × List ℕ)
 item_step kind true octets w c = Some (false, octets, w ++ c ∷ [])

@@ -128,7 +128,7 @@ rare_layout t =
 abbrev pub holds_one_name : ℕ → Bool
 holds_one_name t = (nat_le 2 t && nat_le t 5) || ((nat_le 7 t && nat_le t 9) || (nat_eq t 12 || nat_eq t 39))
 
--- What stands in the data of a type; none where it is written by RFC 3597 alone.
+-- What stands in the data of a type; none if it is written by RFC 3597 alone.
 abbrev pub layout_of : ℕ → Option (List Field × Rest)
 layout_of t =
     if nat_eq t 1 then Some (Quad ∷ [], Nothing)

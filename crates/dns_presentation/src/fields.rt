@@ -90,7 +90,7 @@ pub(crate) fn string_in(alloc: Global, word: &Word) -> Result<Vec<u8>, ZoneFileE
     some_or(word.line, EntryReason::Escape, found)
 }
 
-/// Appends octets behind their length.
+/// Appends octets after their length.
 fn push_counted(line: u64, octets: &[u8], target: &mut Vec<u8>) -> Result<(), ZoneFileError>
     ensures { Gives (λ u. target.new.items) result (more target.old.items (behind_length line octets.now)) }
 {
@@ -101,7 +101,7 @@ fn push_counted(line: u64, octets: &[u8], target: &mut Vec<u8>) -> Result<(), Zo
     push(target, octets)
 }
 
-/// Appends a string behind its length.
+/// Appends a string after its length.
 pub(crate) fn push_string(
     alloc: Global,
     word: &Word,
@@ -124,7 +124,7 @@ pub(crate) fn hex_octets(alloc: Global, line: u64, text: &[u8]) -> Result<Vec<u8
     }
 }
 
-/// Appends the octets of hexadecimal digits behind their length, or none for a hyphen.
+/// Appends the octets of hexadecimal digits after their length, or none for a hyphen.
 fn push_salt(alloc: Global, word: &Word, target: &mut Vec<u8>) -> Result<(), ZoneFileError>
     ensures { Gives (λ u. target.new.items) result (more target.old.items (salt_in word.now)) }
 {
@@ -136,7 +136,7 @@ fn push_salt(alloc: Global, word: &Word, target: &mut Vec<u8>) -> Result<(), Zon
     push_counted(word.line, octets.as_slice(), target)
 }
 
-/// Appends the octets of base32 behind their length.
+/// Appends the octets of base32 after their length.
 fn push_hashed(alloc: Global, word: &Word, target: &mut Vec<u8>) -> Result<(), ZoneFileError>
     ensures { Gives (λ u. target.new.items) result (more target.old.items (hashed_in word.now)) }
 {
@@ -209,7 +209,7 @@ fn push_field(
     }
 }
 
-/// Appends the octets of the field that words begin with, and gives those behind it.
+/// Appends the octets of the field that words begin with, and gives those after it.
 fn push_first<'a>(
     alloc: Global,
     origin: &Name,
@@ -225,7 +225,7 @@ fn push_first<'a>(
     Ok(behind)
 }
 
-/// Appends the octets of fields, and gives the words behind them.
+/// Appends the octets of fields, and gives the words after them.
 pub(crate) fn push_fields<'a>(
     alloc: Global,
     origin: &Name,

@@ -19,7 +19,7 @@ use std::alloc::{AllocError, Global};
 pub(crate) enum Item {
     /// The number of a key.
     Key,
-    /// A protocol behind its length.
+    /// A protocol after its length.
     Protocol,
     /// An IPv4 address.
     Short,
@@ -65,7 +65,7 @@ pub(crate) fn param_key(word: &[u8]) -> Option<u16>
     }
 }
 
-/// Appends an item; none where the word is none.
+/// Appends an item; none if the word is none.
 fn push_item(item: Item, word: &[u8], octets: &mut Vec<u8>) -> Result<Option<()>, AllocError>
     ensures { IfOk result (λ o. option_map (λ _. octets.new.items) o ≡ item_behind item octets.old.items word.now) }
 {
@@ -115,7 +115,7 @@ fn end_item(
     Ok(Some(false))
 }
 
-/// One octet of a list more, and whether it is a backslash; none where an item is none.
+/// One octet of a list more, and whether it is a backslash; none if an item is none.
 fn take_octet(
     item: Item,
     escaped: bool,
@@ -160,7 +160,7 @@ fn items(alloc: Global, item: Item, value: &[u8]) -> Result<Option<Vec<u8>>, All
     Ok(Some(octets))
 }
 
-/// No octets, where there are none.
+/// No octets, if there are none.
 fn no_octets(alloc: Global, value: &[u8]) -> Option<Vec<u8>>
     ensures { option_map (λ v. v.items) result ≡ no_octets value.now }
 {
@@ -214,7 +214,7 @@ fn key_place(keys: &[u16], key: u16) -> usize
     at
 }
 
-/// Takes a key in at its place; none where it stands there already, or is `mandatory`.
+/// Takes a key in at its place; none if it stands there already, or is `mandatory`.
 fn add_key(keys: &mut Vec<u16>, key: u16) -> Result<Option<()>, AllocError>
     ensures { IfOk result (λ o. option_map (λ _. keys.new.items) o ≡ with_key keys.old.items key) }
 {

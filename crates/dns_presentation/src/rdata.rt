@@ -1,4 +1,4 @@
-//! Data of a type, as octets: its fields, and what stands behind them.
+//! Data of a type, as octets: its fields, and what stands after them.
 
 ghost use Rattle.std.specs.Prelude.{◌≡◌, []};
 ghost use Rattle.dns_entries.specs.Reading.{Gives};
@@ -80,7 +80,7 @@ fn types_in(alloc: Global, words: &[Word]) -> Result<Vec<u16>, ZoneFileError>
     Ok(types)
 }
 
-/// What the words behind the fields are.
+/// What the words after the fields are.
 fn rest_of(alloc: Global, line: u64, rest: Rest, words: &[Word]) -> Result<Vec<u8>, ZoneFileError>
     ensures { Gives (λ v. v.items) result (rest_octets line rest words.now) }
 {
@@ -110,7 +110,7 @@ fn rest_of(alloc: Global, line: u64, rest: Rest, words: &[Word]) -> Result<Vec<u
     }
 }
 
-/// The octets of fields and of what stands behind them.
+/// The octets of fields and of what stands after them.
 fn laid_out(
     alloc: Global,
     origin: &Name,

@@ -24,27 +24,27 @@ pub(crate) enum Field {
     Long,
     /// A time in seconds or with units.
     Period,
-    /// A string behind its length, without quotes.
+    /// A string after its length, without quotes.
     Tag,
     /// A type.
     TypeCode,
-    /// A string behind its length, in quotes or without.
+    /// A string after its length, in quotes or without.
     CharString,
     /// A time of a signature.
     Moment,
-    /// Hexadecimal digits of octets behind their length.
+    /// Hexadecimal digits of octets after their length.
     Salt,
-    /// Base32 of octets behind their length.
+    /// Base32 of octets after their length.
     Hashed,
     /// An algorithm of signatures.
     Algorithm,
 }
 
-/// What the words behind the fields are.
+/// What the words after the fields are.
 #[derive(Clone, Copy, Debug, PartialEq, Eq)]
 pub(crate) enum Rest {
     Nothing,
-    /// Strings, each behind its length.
+    /// Strings, each after its length.
     Strings,
     /// A string without its length.
     Value,

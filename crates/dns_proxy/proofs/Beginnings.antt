@@ -79,7 +79,7 @@ limit_hinted : (h : Option ℕ) (t : TransportSpecificContext) → limit_over (h
 limit_hinted h (Udp d) = refl
 limit_hinted h (NonUdp d) = refl
 
--- the limit of a request behind its call
+-- the limit of a request after its call
 pub limit_left : (n : Option ℕ) (old new : Req (Unit {0})) (h : Option ℕ) (reserved : ℕ) → n ≡ limit_over new.transport (limit (hint_of new.transport)) → new ≡ record old { transport = hinted h old.transport; reserved = reserved }
     → n ≡ limit_over old.transport (limit h)
 limit_left n old new h reserved e kept = e ∙ (ap (λ (x : Req (Unit {0})). limit_over x.transport (limit (hint_of x.transport))) kept ∙ limit_hinted h old.transport)
@@ -102,7 +102,7 @@ module _ (f : Fronting) (dgram : Dgram) (c : ClientMessage) (i : Item) where
 
 -- ---- the exchange of a message over a connection
 
--- a message behind its length is one frame
+-- a message after its length is one frame
 one_frame : (o : List ℕ) → frames (framed o) ≡ o ∷ []
 one_frame o = ap frames (sym (append-nil (framed o))) ∙ (frames-framed o [] ∙ ap (λ (fs : List (List ℕ)). o ∷ fs) (frames_none [] refl))
 

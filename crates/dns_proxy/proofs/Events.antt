@@ -50,7 +50,7 @@ module _ {R : Type 0} (rewriting : R → Msg → Msg) (q : Query R) (l : Lookup)
   answer-so : answer_of (with_event a e) ≡ answer_among (o ∷ [])
   answer-so = answer-on a e s.waits ∙ ap (λ (w : LookupOutcome). answer_among (w ∷ [])) (sym outcome-so)
 
-  -- it stands on, where there is no answer
+  -- it stands on, if there is no answer
   stands-on : answer_among (o ∷ []) ≡ Pending → Stands rewriting (record q { lookup = l }) (with_event a e)
   stands-on h = record {
     client = s.client;

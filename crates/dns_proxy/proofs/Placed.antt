@@ -32,7 +32,7 @@ pub test-is : {one two : Bool} {b : Bool} → one ≡ two → one ≡ b → two 
 test-is e h = sym e ∙ h
 
 module _ (given : List ℕ → Result (List ℕ) SendError → Item) (a : Asked) where
-  -- what is kept where the query goes on, and where it has ended
+  -- what is kept if the query goes on, and if it has ended
   goes-on : (kept gone kept' gone' : Type 0) (o : LookupOutcome) (t : QueryOutcome) → ends t ≡ false → (kept → kept') → GoesBy given a kept gone o t → GoesBy given a kept' gone' o t
   goes-on kept gone kept' gone' Led_to.Nothing t h f g = (g.0, f g.1)
   goes-on kept gone kept' gone' (Led_to.Send x) t h f g = (g.0, f g.1)
@@ -75,7 +75,7 @@ module _ {R : Type 0} (rewriting : R → Msg → Msg) (given : List ℕ → Resu
     front-none p None e old is s = refl
     front-none p (Some a) e old is s = absurd (subst (λ (x : Option (Query R)). StandsAt rewriting x (Some a)) is s)
 
-  -- what is sent where no place is free
+  -- what is sent if no place is free
   pub refused : (q : Query R) (a : Asked) (o : Option (List ℕ)) (r : Result (List ℕ) SendError) → o ≡ replied q.limit q.request.octets (rewritten (rewriting q.rule) (given q.request.octets r)) → Stands rewriting q a
       → outputs_to a.came o ≡ sent_for given a.front a.dgram a.came (Ready r)
   refused q a o r is s = subst (λ (x : Option (List ℕ)). outputs_to a.came x ≡ sent_for given a.front a.dgram a.came (Ready r)) (sym is)

@@ -47,7 +47,7 @@ request_by t dgram addr at secs o = record {
 abbrev pub request_of : Dgram → ClientMessage → Req (Unit {0})
 request_of dgram c = request_by c.transport dgram c.addr c.at c.secs (message_of c)
 
--- octets that a client is sent, where it is sent some: over a connection they stand behind their length
+-- octets that a client is sent, if it is sent some: over a connection they stand after their length
 abbrev pub outputs_by : ClientTransport → ℕ → Option (List ℕ) → List Output
 outputs_by Datagram client o = datagrams_to client o
 outputs_by (Connection idle_timeout) client None = []

@@ -47,7 +47,7 @@ abbrev pub due_there : Option Asked → Option ℕ
 due_there None = None
 due_there (Some a) = due_of a
 
--- what stood before the upstreams is, behind an event of what is asked at a place, if anything is
+-- what stood before the upstreams is, after an event of what is asked at a place, if anything is
 abbrev pub front_at : {F : Type 0} → (F → List ℕ → ℕ → Result (List ℕ) SendError → F) → Option Asked → LookupEvent → F → F
 front_at after_give None e front = front
 front_at after_give (Some a) e front = front_by after_give a.came front (outcome_after a e)

@@ -43,7 +43,7 @@ subject a = record { upstream = a.upstream; message = a.message; id = a.id; at =
 abbrev pub with_event : Asked → LookupEvent → Asked
 with_event a e = record a { events = a.events ++ e ∷ [] }
 
--- how far its lookup came, and what an event behind the others leads to
+-- how far its lookup came, and what an event after the others leads to
 abbrev pub came_to : Asked → Progress
 came_to a = progress (subject a) a.events
 
@@ -68,7 +68,7 @@ idle_for (Connection idle_timeout) = record default_stream { connection_config =
 abbrev pub running : ClientTransport → Dgram → Conf
 running t dgram = record { dgram = dgram; stream = idle_for t; over = false }
 
--- its events: the datagram, and one turn of its request; or a connection, over which the message comes, one turn of its request, and what
+-- the events of an exchange: the datagram, and one turn of its request; or a connection, over which the message comes, one turn, and what
 -- is queued then is written (RFC 7766, section 6.2.1.1: each message of a connection is answered by itself)
 abbrev pub event_of : ClientMessage → EventKind → Event
 event_of c kind = record { at = c.at; secs = c.secs; client = c.client; kind = kind }

@@ -40,7 +40,7 @@ IsAsked client request limit rule message u id (Asks q octets) =
     × IsAt (record { upstream = u; message = message; id = id; at = request.received_at }) (InDatagrams []) q.lookup
     × (octets ≡ with_id id message)
 
--- what stood before the upstreams is, behind an event of what is asked, what it is once the answer was given, where there is one
+-- what stood before the upstreams is, after an event of what is asked, what it is once the answer was given, if there is one
 abbrev pub front_by : {F : Type 0} → (F → List ℕ → ℕ → Result (List ℕ) SendError → F) → ClientMessage → F → LookupOutcome → F
 front_by after_give c front Led_to.Nothing = front
 front_by after_give c front (Led_to.Send o) = front
@@ -77,7 +77,7 @@ GoesBy given a kept gone (Led_to.Send o) t = (t ≡ Send o) × kept
 GoesBy given a kept gone (Led_to.Connect o) t = (t ≡ Connect o) × kept
 GoesBy given a kept gone (Led_to.Answer r) t = (o : Option (List ℕ)) × (t ≡ Reply o) × (outputs_to a.came o ≡ sent given a) × gone
 
--- what an event behind the others does to the query that stands for what is asked
+-- what an event after the others does to the query that stands for what is asked
 abbrev pub Goes : {R : Type 0} → (R → Msg → Msg) → (List ℕ → Result (List ℕ) SendError → Item) → Asked
     → LookupEvent → QueryOutcome → Query R → Type 0
 Goes rewriting given a e t q =

@@ -22,7 +22,7 @@ use std::alloc::Global;
 /// What a message begins.
 #[derive(Drop)]
 pub enum BegunQuery<R> {
-    /// Its client is to be sent this, where there is something, and no upstream is asked.
+    /// Its client is to be sent this, if there is something, and no upstream is asked.
     Sent(Option<Octets>),
     /// The message is shorter than a header. Nothing is sent for it, and a connection over which it came is to be closed.
     Short,
@@ -30,7 +30,7 @@ pub enum BegunQuery<R> {
     Asks(Query<R>, Octets),
 }
 
-/// How many octets a reply to a request may take, where that is limited.
+/// How many octets a reply to a request may take, if that is limited.
 fn limit_of(request: &Request<()>) -> Option<u16>
     ensures { result ≡ limit_over request.now.transport (limit (hint_of request.now.transport)) }
 {
@@ -38,7 +38,7 @@ fn limit_of(request: &Request<()>) -> Option<u16>
     limit_over(transport, transport.hint())
 }
 
-/// Begins with a client's message, for which an upstream is asked under an identifier where it makes a request that is passed on.
+/// Begins with a client's message, for which an upstream is asked under an identifier if it makes a request that is passed on.
 /// Of a datagram 1,024 octets are read at most. Below 12 octets nothing is sent, and a response is refused at once.
 pub fn begin_query<F: Front>(
     alloc: Global,

@@ -54,7 +54,7 @@ pub(crate) fn request_of(
     Ok(request)
 }
 
-/// How many octets the reply to a response may take, where that is limited.
+/// How many octets the reply to a response may take, if that is limited.
 fn refusal_limit(transport: ClientTransport, config: &DgramConfig) -> Option<u16>
     ensures { result ≡ refusal_limit transport config.now }
 {

@@ -26,7 +26,7 @@ pub enum Taken<R> {
 pub trait Front: Drop {
     type Rule: Rewrite;
 
-    /// Answer k to a request, where this item is given for it.
+    /// Answer k to a request, if this item is given for it.
     ghost over: { Self → Item → Request (Unit {0}) → ℕ → Answer };
 
     /// The hint that a request has after the call.
@@ -44,7 +44,7 @@ pub trait Front: Drop {
     /// What it is once an answer was given to a query that came at these seconds.
     ghost after_give: { Self → List ℕ → ℕ → Result (List ℕ) SendError → Self };
 
-    /// Takes a request. Where it finds no memory the request isn't to be used.
+    /// Takes a request. If it finds no memory the request isn't to be used.
     fn take(
         &mut self,
         alloc: Global,

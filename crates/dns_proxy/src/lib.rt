@@ -22,7 +22,7 @@
 //! - An event of one place is nothing to the queries at others.
 //! - What a step sends a client is what the front's rule makes of the outcome of that query's own lookup. It is what an
 //!   exchange of that message alone sends, over a service that gives this outcome.
-//! - Over a connection a reply has no limit, and it stands behind its length.
+//! - Over a connection a reply has no limit, and it stands after its length.
 //! - A message that finds no place, and a query that finds no memory, leave all others as they are.
 //! - There are never more places than there may be queries (`bounded`).
 //!

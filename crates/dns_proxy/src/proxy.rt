@@ -19,7 +19,7 @@ use std::alloc::Global;
 /// How a client's message starts.
 #[derive(Drop)]
 pub enum Started {
-    /// Its client is to be sent this, where there is something, and no upstream is asked.
+    /// Its client is to be sent this, if there is something, and no upstream is asked.
     Sent(Option<Octets>),
     /// The message is shorter than a header. Nothing is sent for it, and a connection over which it came is to be closed.
     Short,
@@ -32,13 +32,13 @@ pub enum Started {
 /// What is done with one query more than there may be.
 #[derive(Clone, Copy)]
 pub enum WhenFull {
-    /// Its client is answered as where no upstream can be reached.
+    /// Its client is answered as if no upstream could be reached.
     Fail,
     /// It waits, and isn't begun yet.
     Wait,
 }
 
-/// Queries at places, of which there are so many at most. Each place has a port of its own, so that no query hears what comes to
+/// Queries at places, of which there are that many at most. Each place has a port of its own, so that no query hears what comes to
 /// another.
 #[derive(Drop)]
 pub struct Proxy<F: Front> {
@@ -89,7 +89,7 @@ fn deadline_of<R: Rewrite>(place: &Option<Query<R>>) -> Option<u64>
 }
 
 impl<F: Front> Proxy<F> {
-    /// Without queries, of which there may be so many.
+    /// Without queries, of which there may be that many.
     pub fn new(alloc: Global, front: F, config: DgramConfig, bound: usize) -> Self
         ensures front { result.front ≡ front }
         ensures config { result.config ≡ config }
@@ -111,7 +111,7 @@ impl<F: Front> Proxy<F> {
         &self.front
     }
 
-    /// An event of the query at a place. It is nothing to the others. Where it finds no memory, nothing is kept of the query.
+    /// An event of the query at a place. It is nothing to the others. If it finds no memory, nothing is kept of the query.
     pub fn step(
         &mut self,
         alloc: Global,
@@ -140,7 +140,7 @@ impl<F: Front> Proxy<F> {
     }
 
     /// The first moment at which a tick of the query at a place is due, so that its owner need not look before. There is none
-    /// where no query is.
+    /// if no query is.
     pub fn deadline(&self, place: usize) -> Option<u64>
         ensures { (a : Option Asked) → StandsAt F.Rule.rewriting (kept_at place self.now.places.items) a
             → result ≡ due_there a }
@@ -151,7 +151,7 @@ impl<F: Front> Proxy<F> {
         deadline_of(&self.places[place])
     }
 
-    /// A place where no query is, if there is one: a new one where all are taken and there may be more.
+    /// A place where no query is, if there is one: a new one if all are taken and there may be more.
     fn free_place(&mut self) -> Result<Option<usize>, OutOfMemory>
         ensures free { IfOk result (λ p. MatchOption p (IsFull self.old.bound self.old.places.items)
             (λ k. slice_get self.new.places.items k ≡ Some None)) }
@@ -180,7 +180,7 @@ impl<F: Front> Proxy<F> {
         self.places[place] = Some(query);
     }
 
-    /// A query takes a place, where there is room. Else its client is sent why not, or nothing is kept of it where it is to wait.
+    /// A query takes a place, if there is room. Else its client is sent why not, or nothing is kept of it if it is to wait.
     fn enter(
         &mut self,
         alloc: Global,

@@ -60,7 +60,7 @@ impl<R: Rewrite> Query<R> {
         Ok(QueryOutcome::Reply(octets))
     }
 
-    /// An event of the query's lookup. Once it has ended, and where it finds no memory, it isn't to be used.
+    /// An event of the query's lookup. Once it has ended, and if it finds no memory, it isn't to be used.
     pub fn step<F: Front<Rule = R>>(
         &mut self,
         alloc: Global,

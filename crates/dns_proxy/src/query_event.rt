@@ -7,7 +7,7 @@ use dns_name::{Octets, SocketAddr};
 pub enum ClientTransport {
     /// In a datagram.
     Datagram,
-    /// Over a connection that may be idle for so many ms.
+    /// Over a connection that may be idle for that many ms.
     Connection { idle_timeout: u64 },
 }
 
@@ -31,6 +31,6 @@ pub enum QueryOutcome {
     Send(Octets),
     /// A connection to the upstream is to be opened, and sent this.
     Connect(Octets),
-    /// The query has ended, and its client is to be sent this, where there is something.
+    /// The query has ended, and its client is to be sent this, if there is something.
     Reply(Option<Octets>),
 }

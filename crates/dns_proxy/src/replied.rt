@@ -13,7 +13,7 @@ use dns_service::{Octets, OutOfMemory, Polled, ServiceResult};
 use dns_session::{answered, datagram_of};
 use std::alloc::Global;
 
-/// The octets that are sent for an item to the sender of a message, of so many at most where that is limited.
+/// The octets that are sent for an item to the sender of a message, of that many at most if that is limited.
 pub(crate) fn replied(
     alloc: Global,
     message: &Message,

@@ -1,4 +1,4 @@
--- Who is required to have a cookie where there is no secret.
+-- Who is required to have a cookie if there is no secret.
 use Rattle.std.proofs.Common.{◌≡◌, [], Option, Some, None, refl}
 use Rattle.std.specs.Prelude.{option_map}
 use Rattle.dns_proxy_config.specs.declared.cookies.CookieKeys.{CookieKeys}

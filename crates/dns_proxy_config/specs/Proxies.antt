@@ -1,4 +1,4 @@
--- What the configuration of a proxy sets beside that of a name server. A key that isn't there leaves the value that one starts from,
+-- What the configuration of a proxy sets besides that of a name server. A key that isn't there leaves the value that one starts from,
 -- and each value is limited to its range.
 use Rattle.std.specs.Prelude.{ℕ, ◌+◌, ◌==◌, Bool, List, [], length, map, reverse, Option, Some, None, unwrap_or}
 use Rattle.std.specs.List.{find}
@@ -28,7 +28,7 @@ client_limits l = record {
 abbrev pub client_timeouts : Limits → Timeouts
 client_timeouts l = record { idle = l.idle; write = None; window = None; datagram_write = None }
 
--- what is done with one query more: its client is answered, where nothing is said
+-- what is done with one query more: its client is answered, if nothing is said
 abbrev pub when_full_of : Limits → WhenFull
 when_full_of l = unwrap_or l.when_full Fail
 
@@ -62,6 +62,6 @@ route_of l e = (e.name.name, servers_of l e)
 abbrev pub is_root : UpstreamEntry → Bool
 is_root e = length e.name.name + 1 == 1
 
--- the upstream of the root, the last one where there are several
+-- the upstream of the root, the last one if there are several
 abbrev pub root_entry : List UpstreamEntry → Option UpstreamEntry
 root_entry entries = find is_root (reverse entries)

@@ -10,18 +10,18 @@ use dns_config::{Config as ServerConfig, ConfigError, Cookies, Endpoint, Prefix,
 use serde::Deserialize;
 use std::alloc::Global;
 
-/// How many replies the cache keeps, where nothing is said.
+/// How many replies the cache keeps, if nothing is said.
 const REPLIES: usize = 10_000;
 
 /// Where a proxy listens, which servers it asks, and within which limits.
 #[derive(Drop)]
 pub struct Config {
-    /// What a name server's configuration says too: where is listened, controlled and measured, limits of responses and
+    /// What a name server's configuration says too: at which addresses it listens, controlled and measured, limits of responses and
     /// connections, cookies. It has no zones.
     pub server: ServerConfig,
     /// The networks whose clients need a good cookie over UDP.
     pub required: Vec<Prefix>,
-    /// How many replies the cache keeps, where it is said.
+    /// How many replies the cache keeps, if it is said.
     pub cache: Option<usize>,
     pub limits: Limits,
     pub upstream: Vec<UpstreamEntry>,
@@ -95,7 +95,7 @@ impl Config {
     }
 }
 
-/// The configuration that keys say. They are refused where they name no address at which is listened.
+/// The configuration that keys say. They are refused if they name no address at which it listens.
 fn config_of(alloc: Global, keys: Keys) -> Result<Config, ConfigError>
     ensures listen { IfOk result (λ c. c.server.listen ≡ keys.listen) }
     ensures listens { IfOk result (λ c. c.server.listen.items ≢ []) }
@@ -134,7 +134,7 @@ fn config_of(alloc: Global, keys: Keys) -> Result<Config, ConfigError>
     })
 }
 
-/// The configuration that a text is. No network needs a cookie where there is no secret.
+/// The configuration that a text is. No network needs a cookie if there is no secret.
 #[tactic(auto, using(crate::proofs::Required::none_required))]
 pub fn read_config(alloc: Global, text: &str) -> Result<Config, ConfigError>
     ensures ok { IfOk result (λ _. IsSome (parse_document text.now)) }

@@ -8,13 +8,13 @@ use dns_config::{Endpoint, Limits as ServerLimits, Timeouts};
 use dns_lookup::UpstreamConfig;
 use serde::Deserialize;
 
-/// How often a server is sent a query that it doesn't answer, where nothing else is said.
+/// How often a server is sent a query that it doesn't answer, if nothing else is said.
 const TRIES: u8 = 3;
 
-/// After how many milliseconds it is sent again, where nothing else is said.
+/// After how many milliseconds it is sent again, if nothing else is said.
 const TIMEOUT: u64 = 1000;
 
-/// How many queries may be asked of upstreams at once, where nothing else is said.
+/// How many queries may be asked of upstreams at once, if nothing else is said.
 const QUERIES: usize = 1000;
 
 /// Limits, in octets, milliseconds and numbers.

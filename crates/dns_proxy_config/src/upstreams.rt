@@ -42,7 +42,7 @@ impl fmt::Display for UpstreamError {
     }
 }
 
-/// The servers that endpoints are. They are refused where there is none.
+/// The servers that endpoints are. They are refused if there is none.
 fn servers_of(
     alloc: Global,
     limits: &Limits,
@@ -61,7 +61,7 @@ fn servers_of(
     Ok(servers)
 }
 
-/// The upstream of the root, the last one where there are several.
+/// The upstream of the root, the last one if there are several.
 fn root_of(entries: &[UpstreamEntry]) -> Option<&UpstreamEntry>
     ensures { option_copied result ≡ root_entry entries.now }
 {
@@ -89,7 +89,7 @@ fn upstreams_of_root(
     Ok(Upstreams::new(alloc, seed, servers))
 }
 
-/// Adds the servers of an upstream under its name behind the others.
+/// Adds the servers of an upstream under its name after the others.
 fn add_upstream(
     alloc: Global,
     limits: &Limits,

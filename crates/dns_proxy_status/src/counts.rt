@@ -19,7 +19,7 @@ pub struct ProxyCounts {
     entries: AtomicU64,
 }
 
-/// So many zeros.
+/// That many zeros.
 fn zeros(alloc: Global, count: usize) -> Result<Vec<AtomicU64>, AllocError> {
     let mut numbers = Vec::new(alloc);
     for _ in 0..count {

@@ -18,7 +18,7 @@
 //!
 //! # What is proved
 //!
-//! - A message is counted as a query exactly where it has a header without QR. What a reply tells is read of its header alone
+//! - A message is counted as a query exactly if it has a header without QR. What a reply tells is read of its header alone
 //!   (`Events`).
 //! - Each word but `status` and `stop` is no order.
 //!

@@ -5,7 +5,7 @@ use crate::events::ProxyEvent;
 use std::alloc::{AllocError, Global};
 use std::fmt::Write;
 
-/// The name of a response code of a header, where it has one that is told (RFC 6895, section 2.3). YXRRSET isn't told: the header of
+/// The name of a response code of a header, if it has one that is told (RFC 6895, section 2.3). YXRRSET isn't told: the header of
 /// a reply with BADCOOKIE has its number (RFC 6891, section 6.1.3).
 pub(crate) fn code_name(code: u8) -> Option<&'static str> {
     match code {
@@ -68,7 +68,7 @@ fn push_upstreams(text: &mut String, counts: &ProxyCounts) -> Result<(), AllocEr
     )
 }
 
-/// A line for each count, of a proxy that runs for so many seconds.
+/// A line for each count, of a proxy that runs for that many seconds.
 pub fn report(alloc: Global, counts: &ProxyCounts, seconds: u64) -> Result<String, AllocError> {
     let mut text = String::new(alloc);
     writeln!(text, "up for {seconds} s")?;

@@ -137,7 +137,7 @@ fn singles(alloc: Global, counts: &ProxyCounts) -> Result<Vec<Family>, MetricErr
     Ok(all)
 }
 
-/// The metrics of a proxy that runs for so many seconds.
+/// The metrics of a proxy that runs for that many seconds.
 pub fn families_of(
     alloc: Global,
     counts: &ProxyCounts,

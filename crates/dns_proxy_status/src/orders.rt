@@ -10,7 +10,7 @@ pub enum StatusOrder {
     Stop,
 }
 
-/// The order that a word is. None where there is no such order.
+/// The order that a word is. None if there is no such order.
 pub fn order_of(word: &[u8]) -> Option<StatusOrder>
     ensures { result ≡ order_of word.now }
 {

@@ -17,7 +17,7 @@ use std::sync::{Arc, Wait};
 use std::thread::{self, JoinHandle, Threads};
 use std::time::{Duration, Instant};
 
-/// How often it is looked whether something is asked.
+/// How often it looks whether something is asked.
 const LOOK_MILLIS: u64 = 50;
 
 /// How far a proxy is: it is to end, and it has ended.
@@ -36,7 +36,7 @@ struct Measures<R> {
 }
 
 impl<R: Clock> Measures<R> {
-    /// For how many seconds the proxy runs. Where the clock fails, none.
+    /// For how many seconds the proxy runs. If the clock fails, none.
     fn seconds(&self) -> u64 {
         match self.since.elapsed(&self.machine) {
             Ok(time) => time.as_secs(),
@@ -143,7 +143,7 @@ impl<R: Clock + Wait + Copy> Hearing<R> {
     }
 }
 
-/// The control socket and the page of metrics of a proxy, where they are wanted, each served in a thread.
+/// The control socket and the page of metrics of a proxy, if they are wanted, each served in a thread.
 #[derive(Drop)]
 pub struct Watch {
     phase: Arc<Phase>,

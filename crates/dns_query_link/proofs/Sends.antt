@@ -1,4 +1,4 @@
--- A link without responses may go to another thread where the other link may.
+-- A link without responses may go to another thread if the other link may.
 use denote.RattleType.{RattleType}
 use denote.Param.Send.{IsSend, sendable}
 use denote.Param.SendFields.{declared_send}

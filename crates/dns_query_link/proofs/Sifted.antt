@@ -12,7 +12,7 @@ use Rattle.dns_framing.proofs.FramesLemmas.{first-framed, goes, rest_some}
 use Rattle.dns_query_sock.specs.Queries.{is_response}
 use Rattle.dns_query_link.specs.QueryFrames.{AreOctets, is_query, passed_on, responses}
 
--- the queries among some frames, each behind its length
+-- the queries among some frames, each after its length
 abbrev queries_of : List (List ℕ) → List ℕ
 queries_of l = flat_map framed (filter is_query l)
 

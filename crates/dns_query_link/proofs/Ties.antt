@@ -69,13 +69,13 @@ tied_nothing came h none =
     let p : Parts came came [] [] nothing_held = record { came_is = sym (append-nil came); kept = left; passed = passed } in
     let is : Buffered → Type 0 = λ (x : Buffered). IsTied came came x in subst is (sym none) (tied_by came came [] [] nothing_held p)
 
-pub tied_first : (told : Type 0) (t u : Traffic) (r : Reads) → u ≡ t → r ≡ no_reads → Ties told t.came u r
-tied_first told t u r same none =
-    let is : Traffic → Type 0 = λ (x : Traffic). Ties told t.came x r in
+pub tied_first : (so_far : Type 0) (t u : Traffic) (r : Reads) → u ≡ t → r ≡ no_reads → Ties so_far t.came u r
+tied_first so_far t u r same none =
+    let is : Traffic → Type 0 = λ (x : Traffic). Ties so_far t.came x r in
     subst is (sym same) (record { ties = λ now live. tied_nothing t.came r.held (ap (λ (x : Reads). x.held) none) })
 
-module _ (told : Type 0) (before : List ℕ) (t : Traffic) where
-  pub gives_ties : (result : LinkRead) (buf : List ℕ) (a b : Reads) → Gives result buf a b → Ties told before t a → Ties told before t b
+module _ (so_far : Type 0) (before : List ℕ) (t : Traffic) where
+  pub gives_ties : (result : LinkRead) (buf : List ℕ) (a b : Reads) → Gives result buf a b → Ties so_far before t a → Ties so_far before t b
   gives_ties (Got n) buf a b g tied = record {
     ties = λ now live.
         let p = parts_of before t.came a.held (tied.ties now (sym g.ended ∙ live)) in
@@ -91,11 +91,11 @@ module _ (told : Type 0) (before : List ℕ) (t : Traffic) where
   gives_ties Failed buf a b g tied = absurd g
 
 -- the octets that a read of the link gave were taken
-module _ (told now : Type 0) (before : List ℕ) (t u : Traffic) (n : ℕ) (buf : List ℕ) (moves : Observed now told (LinkReadMoves (Got n) buf t u)) (a b : Reads) (takes : Takes (take n buf) a b) where
+module _ (so_far now : Type 0) (before : List ℕ) (t u : Traffic) (n : ℕ) (buf : List ℕ) (moves : Observed now so_far (LinkReadMoves (Got n) buf t u)) (a b : Reads) (takes : Takes (take n buf) a b) where
   was_live : b.ended ≡ false → a.ended ≡ false
   was_live live = sym (ap (λ (r : Reads). r.ended) (takes live)) ∙ live
 
-  takes_ties : Ties told before t a → Ties now before u b
+  takes_ties : Ties so_far before t a → Ties now before u b
   takes_ties tied = record {
     ties = λ is_now live.
         let m = moves.observed is_now in
@@ -111,9 +111,9 @@ abbrev made : Traffic → List ℕ → ℕ → Traffic
 made t c k = record t { came = c; empty_reads = k }
 
 -- some of what waits is given
-module _ (told : Type 0) (before : List ℕ) (t : Traffic) where
-  gives_moves : (result : LinkRead) (buf : List ℕ) (a b : Reads) → Gives result buf a b → Ties told before t a
-      → Observed (told × IsCounted b) (told × IsCounted a) (LinkReadMoves result buf (without_responses before a t) (without_responses before b t))
+module _ (so_far : Type 0) (before : List ℕ) (t : Traffic) where
+  gives_moves : (result : LinkRead) (buf : List ℕ) (a b : Reads) → Gives result buf a b → Ties so_far before t a
+      → Observed (so_far × IsCounted b) (so_far × IsCounted a) (LinkReadMoves result buf (without_responses before a t) (without_responses before b t))
   gives_moves (Got n) buf a b g tied = record {
     observed = λ now.
         let live : a.ended ≡ false = sym g.ended ∙ now.1.0 in
@@ -147,29 +147,29 @@ held_as_told before piece r t tied =
     ap (λ (g : List ℕ). record t { came = before ++ g; empty_reads = t.empty_reads + r.vain }) (given_is before (t.came ++ piece) _ _ (with_piece piece r.held) p)
 
 -- octets came, and some of what then waits is given
-module _ (told now : Type 0) (before : List ℕ) (t u : Traffic) (n : ℕ) (came : List ℕ) (moves : Observed now told (LinkReadMoves (Got n) came t u)) (a b : Reads) (takes : Takes (take n came) a b) where
-  takes_as_told : Ties told before t a → now → IsCounted b → (told × IsCounted a) × (without_responses before b u ≡ without_responses before a t)
+module _ (so_far now : Type 0) (before : List ℕ) (t u : Traffic) (n : ℕ) (came : List ℕ) (moves : Observed now so_far (LinkReadMoves (Got n) came t u)) (a b : Reads) (takes : Takes (take n came) a b) where
+  takes_as_told : Ties so_far before t a → now → IsCounted b → (so_far × IsCounted a) × (without_responses before b u ≡ without_responses before a t)
   takes_as_told tied is_now counted =
       let m = moves.observed is_now in
-      let live : a.ended ≡ false = was_live told now before t u n came moves a b takes counted.0 in
+      let live : a.ended ≡ false = was_live so_far now before t u n came moves a b takes counted.0 in
       let vain : b.vain ≡ a.vain = ap (λ (r : Reads). r.vain) (takes counted.0) in
       let at : Traffic → Reads → Type 0 = λ (x : Traffic) (r : Reads). without_responses before r x ≡ without_responses before a t in
       let first = held_as_told before (take n came) a t (tied.ties m.0 live) in
       let by_reads = subst (λ (r : Reads). at (record t { came = t.came ++ take n came }) r) (sym (takes counted.0)) first in
       ((m.0, (live, omega (arith, counted.1, vain))), subst (λ (x : Traffic). at x b) (sym m.1) by_reads)
 
-pub taken_ties : (told now : Type 0) (before : List ℕ) (t u : Traffic) (n : ℕ) (came : List ℕ) (result : LinkRead) (buf : List ℕ) (a b d : Reads) → Ties told before t a
-    → Observed now told (LinkReadMoves (Got n) came t u) → Takes (take n came) a b → Gives result buf b d → Ties now before u d
-taken_ties told now before t u n came result buf a b d tied moves takes gives = gives_ties now before u result buf b d gives (takes_ties told now before t u n came moves a b takes tied)
+pub taken_ties : (so_far now : Type 0) (before : List ℕ) (t u : Traffic) (n : ℕ) (came : List ℕ) (result : LinkRead) (buf : List ℕ) (a b d : Reads) → Ties so_far before t a
+    → Observed now so_far (LinkReadMoves (Got n) came t u) → Takes (take n came) a b → Gives result buf b d → Ties now before u d
+taken_ties so_far now before t u n came result buf a b d tied moves takes gives = gives_ties now before u result buf b d gives (takes_ties so_far now before t u n came moves a b takes tied)
 
-pub taken_moves : (told now : Type 0) (before : List ℕ) (t u : Traffic) (n : ℕ) (came : List ℕ) (result : LinkRead) (buf : List ℕ) (a b d : Reads) → Ties told before t a
-    → Observed now told (LinkReadMoves (Got n) came t u) → Takes (take n came) a b → Gives result buf b d
-    → Observed (now × IsCounted d) (told × IsCounted a) (LinkReadMoves result buf (without_responses before a t) (without_responses before d u))
-taken_moves told now before t u n came result buf a b d tied moves takes gives = record {
+pub taken_moves : (so_far now : Type 0) (before : List ℕ) (t u : Traffic) (n : ℕ) (came : List ℕ) (result : LinkRead) (buf : List ℕ) (a b d : Reads) → Ties so_far before t a
+    → Observed now so_far (LinkReadMoves (Got n) came t u) → Takes (take n came) a b → Gives result buf b d
+    → Observed (now × IsCounted d) (so_far × IsCounted a) (LinkReadMoves result buf (without_responses before a t) (without_responses before d u))
+taken_moves so_far now before t u n came result buf a b d tied moves takes gives = record {
   observed = λ counted.
-      let after = takes_ties told now before t u n came moves a b takes tied in
+      let after = takes_ties so_far now before t u n came moves a b takes tied in
       let g = (gives_moves now before u result buf b d gives after).observed counted in
-      let s = takes_as_told told now before t u n came moves a b takes tied g.0.0 g.0.1 in
+      let s = takes_as_told so_far now before t u n came moves a b takes tied g.0.0 g.0.1 in
       let is : Traffic → Type 0 = λ (x : Traffic). LinkReadMoves result buf x (without_responses before d u) in
       (s.0, subst is s.1 g.1);
 }

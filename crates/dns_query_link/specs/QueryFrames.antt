@@ -8,7 +8,7 @@ use Rattle.dns_query_sock.specs.Queries.{is_response}
 abbrev pub is_query : List ℕ → Bool
 is_query o = not (is_response o)
 
--- the octets of a stream's whole frames that are passed on, in order, each message behind its length
+-- the octets of a stream's whole frames that are passed on, in order, each message after its length
 abbrev pub passed_on : List ℕ → List ℕ
 passed_on o = flat_map framed (filter is_query (frames o))
 

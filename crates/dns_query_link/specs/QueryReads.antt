@@ -6,7 +6,7 @@ use Rattle.dns_io.specs.declared.link.LinkRead.{LinkRead}
 use Rattle.dns_io.specs.declared.link.LinkRead.TheVariants.{Got, Again, End, Failed}
 use Rattle.dns_query_link.specs.QueryFrames.{Buffered, nothing_held, passed_on, with_piece}
 
--- what is held of the octets that came, how many reads gave nothing of what came, and whether memory was wanting
+-- what is held of the octets that came, how many reads gave nothing of what came, and whether memory ran out
 pub record Reads : Type 0 where
   pub held : Buffered
   pub vain : ℕ
@@ -15,7 +15,7 @@ pub record Reads : Type 0 where
 abbrev pub no_reads : Reads
 no_reads = record { held = nothing_held; vain = 0; ended = false }
 
--- octets came; without memory nothing is said but that it was wanting
+-- octets came; without memory nothing is said but that it ran out
 abbrev pub Takes : List ℕ → Reads → Reads → Type 0
 Takes piece a b = b.ended ≡ false → b ≡ record a { held = with_piece piece a.held }
 
@@ -26,7 +26,7 @@ pub record GivesSome (n : ℕ) (buf : List ℕ) (a b : Reads) : Type 0 where
   pub vain : b.vain ≡ a.vain
   pub ended : b.ended ≡ a.ended
 
--- what a read gives: octets that wait; Again where none do, and End where memory was wanting
+-- what a read gives: octets that wait; Again if none do, and End if memory ran out
 abbrev pub Gives : LinkRead → List ℕ → Reads → Reads → Type 0
 Gives (Got n) buf a b = GivesSome n buf a b
 Gives Again buf a b = (a.ended ≡ false) × (a.held.waiting ≡ []) × (b ≡ record a { vain = min (a.vain + 1) (2 ^ 64 - 1) })
@@ -49,11 +49,11 @@ pub record IsTied (before came : List ℕ) (h : Buffered) : Type 0 where
   pub kept : h.kept ≡ behind_frames (came_since before came)
   pub waiting : passed_on (came_since before came) ≡ given_since before came h.waiting ++ h.waiting
 
--- where the link tells and memory was never wanting, what is held is of what came since
-pub record Ties (told : Type 0) (before : List ℕ) (t : Traffic) (r : Reads) : Type 0 where
-  pub ties : told → r.ended ≡ false → IsTied before t.came r.held
+-- if the link tells and memory never ran out, what is held is of what came since
+pub record Ties (observed : Type 0) (before : List ℕ) (t : Traffic) (r : Reads) : Type 0 where
+  pub ties : observed → r.ended ≡ false → IsTied before t.came r.held
 
--- that memory was never wanting, and the count of reads stands below its end
+-- that memory never ran out, and the count of reads stands below its end
 abbrev pub IsCounted : Reads → Type 0
 IsCounted r = (r.ended ≡ false) × (r.vain < 2 ^ 64 - 1)
 
@@ -72,7 +72,7 @@ LeavesNone Again r = r.ended ≡ false → r.held.waiting ≡ []
 LeavesNone End r = r.ended ≡ false → r.held.waiting ≡ []
 LeavesNone Failed r = r.ended ≡ false → r.held.waiting ≡ []
 
--- Again comes only where the link itself was read, and answered so or gave octets
+-- Again comes only if the link itself was read, and answered so or gave octets
 abbrev pub WasAsked : LinkRead → List ℕ → Traffic → Traffic → Type 0
 WasAsked (Got n) buf a b = Unit {0}
 WasAsked Again buf a b = 1 ≤ length buf → length a.came + a.empty_reads + 1 ≤ length b.came + b.empty_reads

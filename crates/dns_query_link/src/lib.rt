@@ -18,16 +18,16 @@
 //!
 //! # What is proved
 //!
-//! - Of the pieces that a `QueryFrames` is fed exactly the frames without QR are given, in order, each behind its length.
+//! - Of the pieces that a `QueryFrames` is fed exactly the frames without QR are given, in order, each after its length.
 //!   What is in no whole frame yet is kept, and how many responses were dropped is said (`feed`, `take`).
 //! - A `QueryLink` tells what the other link tells. In place of the octets that came since it was made stand those frames,
 //!   without the octets that still wait. A read that found none in what came counts as an empty one.
-//! - A read that gives no octets leaves none that wait, and Again comes only where the other link was read.
+//! - A read that gives no octets leaves none that wait, and Again comes only if the other link was read.
 //! - Failures of a link are those of the other link, and so is who came.
 //!
 //! # What a body could still get away with
 //!
-//! Without memory a link ends, as if the peer sent no more. Then it tells nothing, as behind 2^64 - 1 reads that found no
+//! Without memory a link ends, as if the peer sent no more. Then it tells nothing, as after 2^64 - 1 reads that found no
 //! query. How often octets are moved, and how much memory is held, no clause says. Nor does one say that an accept object
 //! gives links over those that came.
 #![tactic(auto)]

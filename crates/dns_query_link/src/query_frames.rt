@@ -31,7 +31,7 @@ impl Model for QueryFrames {
     ghost invariant = { λ f. (f.at ≤ length f.waiting.items) × AreOctets f.framer };
 }
 
-/// Appends a message behind its length to the octets that wait, if it is a query. How many responses are dropped with it: one or none.
+/// Appends a message after its length to the octets that wait, if it is a query. How many responses are dropped with it: one or none.
 fn pass_on(message: &[u8], waiting: &mut Vec<u8>) -> Result<u64, OutOfMemory>
     requires { length message.now < 65536 }
     ensures dropped { IfOk result (λ n. n ≡ (if is_response message.now then 1 else 0)) }
@@ -104,7 +104,7 @@ impl QueryFrames {
         sift(alloc, &mut self.framer, &mut self.waiting)
     }
 
-    /// Takes a piece of the stream: the queries that it makes whole wait to be read behind the others. How many responses were
+    /// Takes a piece of the stream: the queries that it makes whole wait to be read after the others. How many responses were
     /// dropped is given. Without memory all is let go, also what waits.
     pub fn feed(&mut self, alloc: Global, piece: &[u8]) -> Result<u64, OutOfMemory>
         ensures held { OnOk result (self.new ≡ with_piece piece.now self.old) }

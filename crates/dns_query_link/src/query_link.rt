@@ -26,7 +26,7 @@ pub struct QueryLink<L: Link> {
 }
 
 impl<L: Link> QueryLink<L> {
-    /// Passes on the queries that this link reads from now on. The responses that it drops are counted, where something counts them.
+    /// Passes on the queries that this link reads from now on. The responses that it drops are counted, if something counts them.
     #[tactic(auto, using(crate::proofs::Ties::tied_first))]
     pub fn new(alloc: Global, inner: L, counts: Option<Arc<QueryCounts>>) -> QueryLink<L>
         ensures inner { result.inner ≡ inner }
@@ -85,7 +85,7 @@ impl<L: Link> Link for QueryLink<L> {
         written
     }
 
-    /// Waits for room where the last write answered Again, and else returns at once where octets wait to be read.
+    /// Waits for room if the last write answered Again, and else returns at once if octets wait to be read.
     fn wait<R: Wait>(&mut self, rt: &R, millis: u64) {
         let waits = self.full || self.reads.wants_octets();
         self.full = false;

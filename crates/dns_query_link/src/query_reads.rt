@@ -19,7 +19,7 @@ pub(crate) struct QueryReads {
     counts: Option<Arc<QueryCounts>>,
     // How many reads gave nothing of what came.
     vain: u64,
-    // Whether memory was wanting.
+    // Whether memory ran out.
     ended: bool,
 }
 
@@ -31,7 +31,7 @@ impl Model for QueryReads {
     ghost view = { λ r. record { held = r.frames; vain = r.vain; ended = r.ended } };
 }
 
-/// Counts responses that were dropped, where something counts them.
+/// Counts responses that were dropped, if something counts them.
 fn count_dropped(counts: &Option<Arc<QueryCounts>>, dropped: u64) {
     if let Some(counts) = counts {
         counts.count_dropped(dropped);
@@ -39,7 +39,7 @@ fn count_dropped(counts: &Option<Arc<QueryCounts>>, dropped: u64) {
 }
 
 impl QueryReads {
-    /// Nothing came yet. Responses are counted, where something counts them.
+    /// Nothing came yet. Responses are counted, if something counts them.
     pub(crate) fn new(alloc: Global, counts: Option<Arc<QueryCounts>>) -> QueryReads
         ensures { result ≡ no_reads }
     {
@@ -69,7 +69,7 @@ impl QueryReads {
         }
     }
 
-    /// Gives octets that wait. Where none do it is Again, and End where memory was wanting.
+    /// Gives octets that wait. If none do it is Again, and End if memory ran out.
     pub(crate) fn give(&mut self, buf: &mut [u8]) -> LinkRead
         ensures given { Gives result buf.new self.old self.new }
         ensures bound { LinkReadBound result buf.new }

@@ -24,7 +24,7 @@ impl QueryCounts {
         let _ = self.connections.fetch_add(1, Ordering::SeqCst);
     }
 
-    /// Counts so many responses that were dropped.
+    /// Counts that many responses that were dropped.
     pub fn count_dropped(&self, count: u64) {
         let _ = self.dropped.fetch_add(count, Ordering::SeqCst);
     }

@@ -65,7 +65,7 @@ pub fn is_response(octets: &[u8]) -> bool
     }
 }
 
-/// Counts what was dropped, where something came and nothing is passed on.
+/// Counts what was dropped, if something came and nothing is passed on.
 fn count_dropped(counts: &Option<Arc<QueryCounts>>, came: &DgramRecv, passed: &DgramRecv) {
     if let (Some(counts), DgramRecv::Got(_, _), DgramRecv::Again) = (counts, came, passed) {
         counts.count_dropped(1);

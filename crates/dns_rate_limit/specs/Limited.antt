@@ -21,12 +21,12 @@ module _ {K : Type 0} (same : K → K → Bool) where
   verdict_in None client second = Whole
   verdict_in (Some l) client second = verdict_by l.rate (charged_from l.rate (lookup (same client) l.accounts.entries) second)
 
-  -- the table behind a response
+  -- the table after a response
   abbrev pub behind_in : Option (LimiterState K) → K → ℕ → Option (LimiterState K)
   behind_in None client second = None
   behind_in (Some l) client second = Some (record l { accounts = behind same l.rate l.accounts client second })
 
--- an empty table where there is a rate
+-- an empty table if there is a rate
 abbrev pub table_of : {K : Type 0} → ℕ → Option Rate → Option (LimiterState K)
 table_of capacity None = None
 table_of capacity (Some r) = Some (record { rate = r; accounts = lru_cache [] capacity })

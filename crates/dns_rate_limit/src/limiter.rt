@@ -32,7 +32,7 @@ impl<K: Eq + Hash, S: BuildHasher> Model for Limiter<K, S> {
 }
 
 impl<K: Eq + Hash + Drop, S: BuildHasher + Drop> Limiter<K, S> {
-    /// A table of so many accounts at most, whose keys are hashed under this seed. Its memory is taken at once.
+    /// A table of that many accounts at most, whose keys are hashed under this seed. Its memory is taken at once.
     pub fn new(
         alloc: Global,
         rate: Rate,

@@ -149,7 +149,7 @@ impl<S: BuildHasher + Copy + Drop> Limits<S> {
     }
 }
 
-/// The table of a kind, where it has a rate.
+/// The table of a kind, if it has a rate.
 fn table<K: Eq + Hash + Drop, S: BuildHasher + Copy + Drop>(
     alloc: Global,
     rate: Option<Rate>,

@@ -8,7 +8,7 @@ pub struct Rate {
     /// How many seconds longer a client may stay limited, however much it asked: past that many seconds without a response
     /// it is limited no more.
     pub window: u16,
-    /// Of so many limited responses one is sent truncated, so that a client may ask again over TCP; 0 for none.
+    /// Of that many limited responses one is sent truncated, so that a client may ask again over TCP; 0 for none.
     pub slip: u8,
 }
 

@@ -22,7 +22,7 @@ escaped_octet c = if stands c then c ∷ [] else 92 ∷ (48 + c / 100) ∷ (48 +
 abbrev pub escaped_label : List ℕ → List ℕ
 escaped_label l = flat_map escaped_octet l
 
--- a dot behind each label
+-- a dot after each label
 abbrev pub escaped_labels : List (List ℕ) → List ℕ
 escaped_labels [] = []
 escaped_labels (l ∷ ls) = escaped_label l ++ (46 ∷ escaped_labels ls)
@@ -71,11 +71,11 @@ quoted_word o = record { quoted = true; octets = o }
 abbrev pub written : TextWord → List ℕ
 written w = if w.quoted then 34 ∷ (w.octets ++ 34 ∷ []) else w.octets
 
--- words, each behind a space
+-- words, each after a space
 abbrev pub behind_spaces : List TextWord → List ℕ
 behind_spaces ws = flat_map (λ w. 32 ∷ written w) ws
 
--- one space between words, and LF behind the last
+-- one space between words, and LF after the last
 abbrev pub words_line : TextWord → List TextWord → List ℕ
 words_line w [] = written w ++ (10 ∷ [])
 words_line w (v ∷ vs) = written w ++ (32 ∷ words_line v vs)
@@ -88,7 +88,7 @@ name_word n = bare_word (absolute_text n)
 
 -- ---- data
 
--- hexadecimal digits, where there is an octet
+-- hexadecimal digits, if there is an octet
 abbrev pub hex_digits : List ℕ → List TextWord
 hex_digits [] = []
 hex_digits (o ∷ os) = bare_word (encode_lower (o ∷ os)) ∷ []
@@ -97,7 +97,7 @@ hex_digits (o ∷ os) = bare_word (encode_lower (o ∷ os)) ∷ []
 abbrev pub octet_words : List ℕ → List TextWord
 octet_words o = bare_word (codes "\\#") ∷ number_word (length o) ∷ hex_digits o
 
--- ---- strings (RFC 1035, section 3.3), each behind its length in the data, and in quotes in the text
+-- ---- strings (RFC 1035, section 3.3), each after its length in the data, and in quotes in the text
 
 -- printing characters and the space stand for themselves
 abbrev pub stands_in_quotes : ℕ → Bool
@@ -107,12 +107,12 @@ stands_in_quotes c = is_in_range 32 126 c && not (nat_eq c 34 || nat_eq c 92)
 abbrev pub quoted_octet : ℕ → List ℕ
 quoted_octet c = if stands_in_quotes c then c ∷ [] else 92 ∷ (48 + c / 100) ∷ (48 + c / 10 % 10) ∷ (48 + c % 10) ∷ []
 
--- whether octets end strings, of which the first has so many octets left
+-- whether octets end strings, of which the first has that many octets left
 abbrev pub end_strings : ℕ → List ℕ → Bool
 end_strings left [] = nat_eq left 0
 end_strings left (c ∷ cs) = end_strings (if nat_eq left 0 then c else left - 1) cs
 
--- an octet of a string with so many left, or the length of another, behind the quote that ends the string
+-- an octet of a string with that many left, or the length of another, after the quote that ends the string
 abbrev pub string_octet_text : ℕ → ℕ → List ℕ
 string_octet_text left c = if nat_eq left 0 then 34 ∷ 32 ∷ 34 ∷ [] else quoted_octet c
 

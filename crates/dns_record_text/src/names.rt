@@ -41,7 +41,7 @@ fn push_label(target: &mut Vec<u8>, label: &[u8]) -> Result<(), OutOfMemory>
     Ok(())
 }
 
-/// Appends labels, each with a dot behind it.
+/// Appends labels, each with a dot after it.
 fn push_labels(target: &mut Vec<u8>, mut labels: Labels<'_>) -> Result<(), OutOfMemory>
     ensures { OnOk result (target.new.items ≡ target.old.items ++ escaped_labels labels.entry) }
 {
@@ -62,7 +62,7 @@ pub fn push_name(target: &mut Vec<u8>, name: &Name) -> Result<(), OutOfMemory>
     push_labels(target, name.labels())
 }
 
-/// Appends an absolute name behind a space.
+/// Appends an absolute name after a space.
 pub(crate) fn push_name_word(target: &mut Vec<u8>, name: &Name) -> Result<(), OutOfMemory>
     ensures { OnOk result (target.new.items ≡ target.old.items ++ (32 ∷ absolute_text name.now)) }
 {

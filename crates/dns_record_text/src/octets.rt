@@ -22,7 +22,7 @@ pub fn push_number(target: &mut Vec<u8>, number: u64) -> Result<(), OutOfMemory>
     push(target, buffer.format(number).as_bytes())
 }
 
-/// Appends a word behind a space.
+/// Appends a word after a space.
 pub(crate) fn push_word(target: &mut Vec<u8>, word: &[u8]) -> Result<(), OutOfMemory>
     ensures { OnOk result (target.new.items ≡ target.old.items ++ (32 ∷ word.now)) }
 {
@@ -30,7 +30,7 @@ pub(crate) fn push_word(target: &mut Vec<u8>, word: &[u8]) -> Result<(), OutOfMe
     push(target, word)
 }
 
-/// Appends a number behind a space.
+/// Appends a number after a space.
 pub(crate) fn push_number_word(target: &mut Vec<u8>, number: u64) -> Result<(), OutOfMemory>
     ensures { OnOk result (target.new.items ≡ target.old.items ++ (32 ∷ decimal number)) }
 {
@@ -38,7 +38,7 @@ pub(crate) fn push_number_word(target: &mut Vec<u8>, number: u64) -> Result<(), 
     push_number(target, number)
 }
 
-/// Appends numbers, each behind a space.
+/// Appends numbers, each after a space.
 pub(crate) fn push_numbers(target: &mut Vec<u8>, numbers: &[u32]) -> Result<(), OutOfMemory>
     ensures { OnOk result (target.new.items ≡ target.old.items ++ behind_spaces (map number_word numbers.now)) }
 {

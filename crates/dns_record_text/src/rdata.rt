@@ -13,7 +13,7 @@ use dns_name::{Name, OutOfMemory};
 use std::alloc::Global;
 use std::net::Ipv6Addr;
 
-/// Appends an IPv4 address behind a space.
+/// Appends an IPv4 address after a space.
 #[tactic(auto, using(crate::proofs::Appended::regrouped))]
 fn push_quad_word(target: &mut Vec<u8>, octets: [u8; 4]) -> Result<(), OutOfMemory>
     ensures { OnOk result (target.new.items ≡ target.old.items ++ (32 ∷ ipv4_text octets)) }
@@ -28,7 +28,7 @@ fn push_quad_word(target: &mut Vec<u8>, octets: [u8; 4]) -> Result<(), OutOfMemo
     push_number(target, d as u64)
 }
 
-/// Appends an IPv6 address behind a space.
+/// Appends an IPv6 address after a space.
 fn push_long_word(alloc: Global, target: &mut Vec<u8>, octets: [u8; 16]) -> Result<(), OutOfMemory>
     ensures { OnOk result (target.new.items ≡ target.old.items ++ (32 ∷ ipv6_text (segments_of octets))) }
 {
@@ -58,7 +58,7 @@ fn push_name_type(target: &mut Vec<u8>, rtype: u16) -> Result<(), OutOfMemory>
     }
 }
 
-/// Appends hexadecimal digits behind a space, where there is an octet.
+/// Appends hexadecimal digits after a space, if there is an octet.
 fn push_hex(alloc: Global, target: &mut Vec<u8>, octets: &[u8]) -> Result<(), OutOfMemory>
     ensures { OnOk result (target.new.items ≡ target.old.items ++ behind_spaces (hex_digits octets.now)) }
 {
@@ -69,7 +69,7 @@ fn push_hex(alloc: Global, target: &mut Vec<u8>, octets: &[u8]) -> Result<(), Ou
     push_word(target, text.as_bytes())
 }
 
-/// Appends data as octets behind their length.
+/// Appends data as octets after their length.
 #[tactic(auto, using(crate::proofs::Appended::regrouped))]
 pub(crate) fn push_octet_words(
     alloc: Global,
@@ -83,7 +83,7 @@ pub(crate) fn push_octet_words(
     push_hex(alloc, target, octets)
 }
 
-/// Appends a type by its number, and data as octets behind their length.
+/// Appends a type by its number, and data as octets after their length.
 #[tactic(auto, using(crate::proofs::Appended::regrouped))]
 fn push_octets(
     alloc: Global,

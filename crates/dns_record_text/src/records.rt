@@ -10,7 +10,7 @@ use dns_message::Record;
 use dns_name::{Class, OutOfMemory};
 use std::alloc::Global;
 
-/// Appends a class behind a space.
+/// Appends a class after a space.
 #[tactic(auto, unfolding(crate::specs::RecordText::class_word))]
 pub fn push_class(alloc: Global, target: &mut Vec<u8>, class: Class) -> Result<(), OutOfMemory>
     ensures { OnOk result (target.new.items ≡ target.old.items ++ (32 ∷ class_word class)) }

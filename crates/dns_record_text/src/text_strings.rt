@@ -33,7 +33,7 @@ fn push_quoted_octet(target: &mut Vec<u8>, octet: u8) -> Result<(), OutOfMemory>
     )
 }
 
-/// How many octets are left of a string behind an octet: of one with so many left, or the length of another.
+/// How many octets are left of a string after an octet: of one with that many left, or the length of another.
 fn left_behind(left: u8, octet: u8) -> u8
     ensures { result ≡ (if nat_eq left 0 then octet else left - 1) }
 {
@@ -43,7 +43,7 @@ fn left_behind(left: u8, octet: u8) -> u8
     left - 1
 }
 
-/// Whether octets end strings, of which the first has so many octets left.
+/// Whether octets end strings, of which the first has that many octets left.
 fn end_strings(length: u8, octets: &[u8]) -> bool
     ensures { result ≡ end_strings length octets.now }
 {
@@ -54,7 +54,7 @@ fn end_strings(length: u8, octets: &[u8]) -> bool
     left == 0
 }
 
-/// Appends an octet of strings: of one with so many octets left, or the length of another. Gives how many are left.
+/// Appends an octet of strings: of one with that many octets left, or the length of another. Gives how many are left.
 fn push_string_octet(target: &mut Vec<u8>, left: u8, octet: u8) -> Result<u8, OutOfMemory>
     ensures left { IfOk result (λ n. n ≡ (if nat_eq left 0 then octet else left - 1)) }
     ensures value { OnOk result (target.new.items ≡ target.old.items ++ string_octet_text left octet) }
@@ -67,7 +67,7 @@ fn push_string_octet(target: &mut Vec<u8>, left: u8, octet: u8) -> Result<u8, Ou
     Ok(left - 1)
 }
 
-/// Appends the text of strings, of which the first has so many octets left.
+/// Appends the text of strings, of which the first has that many octets left.
 fn push_strings_on(target: &mut Vec<u8>, length: u8, octets: &[u8]) -> Result<(), OutOfMemory>
     ensures { OnOk result (target.new.items ≡ target.old.items ++ strings_on length octets.now) }
 {
@@ -78,7 +78,7 @@ fn push_strings_on(target: &mut Vec<u8>, length: u8, octets: &[u8]) -> Result<()
     push(target, b"\"")
 }
 
-/// Appends strings, each behind a space, of which the first has this length.
+/// Appends strings, each after a space, of which the first has this length.
 #[tactic(auto, using(crate::proofs::Appended::text_spaced, crate::proofs::Appended::regrouped))]
 fn push_strings(target: &mut Vec<u8>, length: u8, octets: &[u8]) -> Result<(), OutOfMemory>
     ensures { OnOk result (target.new.items ≡ target.old.items ++ behind_spaces (string_words length [] octets.now)) }
@@ -87,7 +87,7 @@ fn push_strings(target: &mut Vec<u8>, length: u8, octets: &[u8]) -> Result<(), O
     push_strings_on(target, length, octets)
 }
 
-/// Appends strings, each behind a space, or other octets as octets.
+/// Appends strings, each after a space, or other octets as octets.
 pub(crate) fn push_text(
     alloc: Global,
     target: &mut Vec<u8>,

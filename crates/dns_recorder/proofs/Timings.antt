@@ -67,7 +67,7 @@ faults_append (e ∷ es) fs = let h = faults_append es fs in omega arith
 pub timed_none : (n : List Event) (f : ℕ) (c : List ClockReading) → Timed n n f f c c
 timed_none n f c = record { events = []; readings = []; noted = sym (append-nil n); clock = sym (append-nil c); dated = tt; count = omega arith }
 
--- where no write answered Again
+-- if no write answered Again
 pub timed_shift : (n n' : List Event) (f : ℕ) (c c' : List ClockReading) → Timed n n' 0 0 c c' → Timed n n' f f c c'
 timed_shift n n' f c c' t = record { events = t.events; readings = t.readings; noted = t.noted; clock = t.clock; dated = t.dated; count = let p = t.count in omega arith }
 

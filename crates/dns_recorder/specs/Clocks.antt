@@ -14,7 +14,7 @@ pub record ComesAt (readings : List ClockReading) (r : ClockReading) (rest : Lis
   pub is : readings ≡ skipped ++ r ∷ later
   pub rest_is : rest ≡ r ∷ later
 
--- a Write took the time from a reading that stands not after its own, or none where the clock went back
+-- a Write took the time from a reading that stands not after its own, or none if the clock went back
 pub record TookFrom (readings : List ClockReading) (r : ClockReading) (took : ℕ) (rest : List ClockReading) : Type 0 where
   pub start : ClockReading
   pub since : List ClockReading
@@ -69,7 +69,7 @@ pub record TimedWhole (n n' : List Event) (again again' : ℕ) (c c' : List Cloc
   pub dated : Dated readings events
   pub count : length readings + again ≤ length events + writes_in events + 1 + again'
 
--- and of one event that is not noted yet
+-- the readings of one event that is not noted yet
 pub record TimedOne (event : Event) (again again' : ℕ) (c c' : List ClockReading) : Type 0 where
   pub readings : List ClockReading
   pub clock : c' ≡ c ++ readings
@@ -82,7 +82,7 @@ pub record Waited (again again' : ℕ) (c c' : List ClockReading) : Type 0 where
   pub clock : c' ≡ c ++ readings
   pub count : length readings + again ≡ again'
 
--- and this one is the last of them
+-- one reading for each write that answered Again, of which this one is the last
 pub record LateAt (r : ClockReading) (again again' : ℕ) (c c' : List ClockReading) : Type 0 where
   pub before : List ClockReading
   pub clock : c' ≡ c ++ (before ++ r ∷ [])

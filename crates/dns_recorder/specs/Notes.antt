@@ -8,7 +8,7 @@ use Rattle.dns_model.specs.Own.{is_wide}
 use Rattle.dns_recorder.specs.Clocks.{ClockReading, Timed}
 use Rattle.dns_recorder.specs.Woven.{kinds, AreNobodys}
 
--- the event at the end, or nothing where there is no memory
+-- the event at the end, or nothing if there is no memory
 abbrev pub NoteMoves : Result (Unit {0}) OutOfMemory → Event → List Event → List Event → Type 0
 NoteMoves (Ok u) e a b = b ≡ a ++ e ∷ []
 NoteMoves (Err no_memory) e a b = b ≡ a
@@ -36,7 +36,7 @@ pub record NotedWide (n n' : List Event) : Type 0 where
   pub nobodys : AreNobodys events
   pub noted : n' ≡ n ++ events
 
--- What a call did that notes events of these kinds, each with a reading of the clock, or nothing where there is no memory: by what clock
+-- What a call did that notes events of these kinds, each with a reading of the clock, or nothing if there is no memory: by what clock
 -- and recorder tell, which are read so.
 pub record NotesKinds {C J : Type 0} (ticks : C → Type 0) (readings : C → List ClockReading) (notes : J → Type 0) (noted : J → List Event)
     (ks : List EventKind) (r : Result (Unit {0}) OutOfMemory) (c c' : C) (j j' : J) : Type 0 where

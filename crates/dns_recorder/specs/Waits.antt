@@ -17,11 +17,11 @@ vain_after Tick vain = one_more vain
 vain_after (Turn request) vain = vain
 vain_after _ vain = 0
 
--- in milliseconds, where a request is to be polled again: twice as long after each, up to 16
+-- in milliseconds, if a request is to be polled again: twice as long after each, up to 16
 abbrev pub repoll_wait_after : ℕ → ℕ
 repoll_wait_after vain =
     if nat_lt vain 1 then 1 else (if nat_lt vain 2 then 2 else (if nat_lt vain 3 then 4 else (if nat_lt vain 4 then 8 else 16)))
 
--- in milliseconds, where nothing is to be done
+-- in milliseconds, if nothing is to be done
 abbrev pub idle_wait_after : ℕ → ℕ
 idle_wait_after vain = if nat_lt vain 16 then 250 else (if nat_lt vain 32 then 1000 else 4000)

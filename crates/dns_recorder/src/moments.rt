@@ -17,7 +17,7 @@ use std::time::Duration;
 /// How many milliseconds one wait for a datagram, for a connection or for room lasts at most.
 pub const MAX_WAIT_MS: u64 = 250;
 
-/// Waits for so many milliseconds, or less.
+/// Waits for that many milliseconds, or less.
 pub fn pause<R: Wait>(rt: &R, millis: u64) {
     let parker = Parker::new();
     parker.park_timeout(rt, Duration::from_millis(millis));

@@ -12,7 +12,7 @@ use dns_io::Clock;
 use dns_name::OutOfMemory;
 use std::alloc::Global;
 
-/// Notes the configurations, where their version is new.
+/// Notes the configurations, if their version is new.
 #[tactic(auto, using(crate::proofs::Notings::noted_none, crate::proofs::Notings::noted_kind, crate::proofs::Timings::timed_none))]
 pub fn note_version<C: Clock, J: Recorder>(
     alloc: Global,
@@ -37,7 +37,7 @@ pub fn note_version<C: Clock, J: Recorder>(
     }
 }
 
-/// Notes the shutdown, where it is new.
+/// Notes the shutdown, if it is new.
 #[tactic(auto, using(crate::proofs::Notings::noted_none, crate::proofs::Notings::noted_kind, crate::proofs::Timings::timed_none))]
 pub fn note_shutdown<C: Clock, J: Recorder>(
     alloc: Global,

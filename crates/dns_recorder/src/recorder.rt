@@ -11,12 +11,12 @@ use dns_name::{Octets, OutOfMemory};
 use std::alloc::Global;
 use std::marker::{Model, PhantomData};
 
-/// What a driver notes each event in, before a core takes it. A call is refused for want of memory alone.
+/// What a driver notes each event in, before a core takes it. A call is refused only if memory ran out.
 pub trait Recorder {
     /// That what was noted is known.
     ghost tells: { Self → Type 0 };
 
-    /// The events noted so far, where the recorder tells.
+    /// The events noted so far, if the recorder tells.
     ghost noted: { Self → List Event };
 
     /// Notes an event.

@@ -47,7 +47,7 @@ impl Waits {
         }
     }
 
-    /// How long the next wait lasts at most, in ms, where a request is to be polled again: 1, and twice as long after each wait in
+    /// How long the next wait lasts at most, in ms, if a request is to be polled again: 1, and twice as long after each wait in
     /// vain, up to 16.
     pub fn repoll_wait(self) -> u64
         ensures { result ≡ repoll_wait_after self.vain }
@@ -65,7 +65,7 @@ impl Waits {
         }
     }
 
-    /// How long the next wait lasts at most, in ms, where nothing is to be done: 250, then 1,000 after 16 waits in vain, and 4,000
+    /// How long the next wait lasts at most, in ms, if nothing is to be done: 250, then 1,000 after 16 waits in vain, and 4,000
     /// after 32.
     pub fn idle_wait(self) -> u64
         ensures { result ≡ idle_wait_after self.vain }

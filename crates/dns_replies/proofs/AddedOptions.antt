@@ -71,7 +71,7 @@ module _ (old new : Built) (code : ℕ) (d : List ℕ) where
     option_added (Err ShortBuf) l p h = built (Err ShortBuf) l p h
     option_added (Err NoMemory) l p h = h
 
-  -- where the limit is the greatest there is, the message is as the definition says, refused or not
+  -- if the limit is the greatest there is, the message is as the definition says, refused or not
   pub option_whole : (result : Result ⊤ BuildDataError) → AddsOption code d old new result → old.limit ≡ 65535 → result ≢ Err NoMemory → new.message ≡ with_option old.message code d
   option_whole (Ok u) h l n = ap (λ (b : Built). b.message) h.0
   option_whole (Err LongOptData) h l n = ap (λ (b : Built). b.message) h.0 ∙ sym (itself old.message code d (omega (arith, h.1, optioned_length old code d)))

@@ -6,7 +6,7 @@ use Rattle.dns_base.specs.Wire.{wire}
 use Rattle.dns_base.specs.Built.{Built}
 use Rattle.dns_replies.specs.OptIn.{minimal, opt_record_in}
 
--- the message takes at most so many octets
+-- the message takes at most that many octets
 abbrev pub fits : ℕ → Msg → Bool
 fits n m = nat_le (length (wire m)) n
 
@@ -26,7 +26,7 @@ shortened n m None = first_fitting n (truncated m m.questions [] ∷ []) (trunca
 shortened n m (Some r) = first_fitting n (truncated m m.questions (r ∷ []) ∷ truncated m m.questions (minimal r ∷ []) ∷ [])
     (truncated m [] (minimal r ∷ []))
 
--- the message where it fits, else truncated
+-- the message if it fits, else truncated
 abbrev pub cut : ℕ → Msg → Msg
 cut n m = if fits n m then m else shortened n m (opt_record_in m)
 
@@ -34,7 +34,7 @@ cut n m = if fits n m then m else shortened n m (opt_record_in m)
 abbrev pub cut_built : ℕ → Built → Built
 cut_built n b = record b { message = cut n b.message }
 
--- a message that is cut where there is a limit
+-- a message that is cut if there is a limit
 abbrev pub sized : Option ℕ → Msg → Msg
 sized None m = m
 sized (Some n) m = cut n m

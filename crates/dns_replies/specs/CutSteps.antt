@@ -5,11 +5,11 @@ use Rattle.dns_base.specs.Wire.{wire}
 use Rattle.dns_base.specs.Built.{Built, PassesLimit}
 use Rattle.dns_replies.specs.Cut.{fits}
 
--- a truncated message with these records more, where it fits; its own limit is the same
+-- a truncated message with these records more, if it fits; its own limit is the same
 abbrev pub built_fitting : ℕ → Msg → Option Built
 built_fitting n m = if fits n m then Some (record { message = m; limit = n }) else None
 
--- the first of two where there is one
+-- the first of two if there is one
 abbrev pub or_else : {A : Type 0} → Option A → Option A → Option A
 or_else (Some x) other = Some x
 or_else None other = other
@@ -19,7 +19,7 @@ abbrev pub Added : Built → Built → Built → Bool → Type 0
 Added old new more true = (new ≡ more) × (length (wire more.message) ≤ more.limit)
 Added old new more false = (new ≡ old) × PassesLimit more
 
--- what is built, where it fits
+-- what is built, if it fits
 abbrev pub where_fitting : Built → Option Built
 where_fitting b = built_fitting b.limit b.message
 

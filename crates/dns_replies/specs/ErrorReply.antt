@@ -11,7 +11,7 @@ use Rattle.dns_opt.specs.OptRecords.{zero_head}
 abbrev pub code_draft : Built → ℕ → OptDraft
 code_draft b code = record (opened_opt b) { head = record zero_head { ext = code / 16 }; low = code % 16 }
 
--- a message with that record and that code, or as it is where the record has no room
+-- a message with that record and that code, or as it is if the record has no room
 abbrev pub with_code : Built → ℕ → Built
 with_code b code = if within_limit (with_opt_record (code_draft b code) b) then with_opt (code_draft b code) b else b
 

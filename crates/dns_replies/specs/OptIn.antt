@@ -1,4 +1,4 @@
--- The OPT record of a message that is a plain record (RFC 6891, section 6.1.1): the first additional record of type 41, where its
+-- The OPT record of a message that is a plain record (RFC 6891, section 6.1.1): the first additional record of type 41, if its
 -- data is an option list.
 use Rattle.std.specs.Prelude.{[], Option}
 use Rattle.dns_base.specs.Msg.{Msg, ResourceRecord}

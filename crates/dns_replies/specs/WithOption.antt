@@ -11,7 +11,7 @@ use Rattle.dns_opt.specs.OptRecords.{OptState, opt_record, opt_state}
 use Rattle.dns_opt.specs.Pushes.{Fits}
 use Rattle.dns_opt.specs.Reopened.{old_opt}
 
--- an OPT record with an option more, behind those that it has
+-- an OPT record with an option more, after those that it has
 abbrev pub and_option : OptState → ℕ → List ℕ → OptState
 and_option s code d = opt_state s.head (s.options ++ option_octets code d)
 
@@ -27,7 +27,7 @@ optioned m code d = record m { additional = one_opt m.additional (and_option (ol
 abbrev pub with_option : Msg → ℕ → List ℕ → Msg
 with_option m code d = if nat_le (length (wire (optioned m code d))) 65535 then optioned m code d else m
 
--- An option is added: refused LongOptData where the option list would pass 65,535 octets, then ShortBuf where the message would pass
+-- An option is added: refused LongOptData if the option list would pass 65,535 octets, then ShortBuf if the message would pass
 -- its limit, both exactly. A refused call leaves the message.
 abbrev pub AddsOption : ℕ → List ℕ → Built → Built → Result ⊤ BuildDataError → Type 0
 AddsOption code d old new (Ok _) = (new ≡ record old { message = with_option old.message code d })

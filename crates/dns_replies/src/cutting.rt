@@ -19,7 +19,7 @@ use dns_base::{
 use dns_name::OutOfMemory;
 use std::alloc::Global;
 
-/// Truncates a message that has more than so many octets (RFC 6891, section 7). A message that has no more isn't copied.
+/// Truncates a message that has more than that many octets (RFC 6891, section 7). A message that has no more isn't copied.
 #[inline(always)]
 pub fn cut(alloc: Global, message: &mut AdditionalBuilder, limit: usize) -> Result<(), OutOfMemory>
     ensures ok { OnOk result (message.new ≡ cut_built limit message.old) }
@@ -31,7 +31,7 @@ pub fn cut(alloc: Global, message: &mut AdditionalBuilder, limit: usize) -> Resu
     cut_longer(alloc, message, limit)
 }
 
-/// Truncates a message that has more than so many octets.
+/// Truncates a message that has more than that many octets.
 #[inline(never)]
 fn cut_longer(
     alloc: Global,
@@ -110,7 +110,7 @@ fn with_opt(
     }
 }
 
-/// The questions and the OPT record, or the questions and a minimal one, where they fit.
+/// The questions and the OPT record, or the questions and a minimal one, if they fit.
 #[tactic(auto, using(crate::proofs::CutLaws::neither))]
 fn asked_with(
     alloc: Global,
@@ -130,7 +130,7 @@ fn asked_with(
     }
 }
 
-/// The message with the OPT record, or with a minimal one, where it has room.
+/// The message with the OPT record, or with a minimal one, if it has room.
 fn either_built(
     alloc: Global,
     message: AdditionalBuilder,
@@ -148,7 +148,7 @@ fn either_built(
     }
 }
 
-/// Adds the OPT record, or a minimal one, where it has room, and says whether one had.
+/// Adds the OPT record, or a minimal one, if it has room, and says whether one had.
 fn either_added(
     alloc: Global,
     message: &mut AdditionalBuilder,
@@ -178,7 +178,7 @@ fn alone(
     Ok(shorter)
 }
 
-/// Adds a minimal OPT record where it has room, and says whether it had. It is written as it is added.
+/// Adds a minimal OPT record if it has room, and says whether it had. It is written as it is added.
 #[tactic(auto, unfolding(dns_message::specs::Options::options))]
 fn minimal_added(
     alloc: Global,
@@ -195,7 +195,7 @@ fn minimal_added(
     }
 }
 
-/// The header with TC and the questions, where they fit.
+/// The header with TC and the questions, if they fit.
 fn asked(
     alloc: Global,
     message: &AdditionalBuilder,
@@ -215,7 +215,7 @@ fn asked(
     }
 }
 
-/// The header with TC, where so many octets are allowed.
+/// The header with TC, if that many octets are allowed.
 fn opened(
     alloc: Global,
     message: &AdditionalBuilder,
@@ -257,7 +257,7 @@ fn copy_questions(
     Ok(true)
 }
 
-/// Adds a question where it has room, and says whether it had.
+/// Adds a question if it has room, and says whether it had.
 fn question_added(
     alloc: Global,
     target: &mut QuestionBuilder,
@@ -273,7 +273,7 @@ fn question_added(
     }
 }
 
-/// Adds a record where it has room, and says whether it had.
+/// Adds a record if it has room, and says whether it had.
 fn added(
     alloc: Global,
     message: &mut AdditionalBuilder,

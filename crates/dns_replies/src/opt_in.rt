@@ -22,7 +22,7 @@ pub(crate) fn opt_record_in(
     opt_record_among(alloc, message.additional_records())
 }
 
-/// The first record of type OPT, where its data is an option list.
+/// The first record of type OPT, if its data is an option list.
 fn opt_record_among(alloc: Global, records: RecordIter<'_>) -> Result<Option<Record>, OutOfMemory>
     ensures value { IfOk result (λ o. option_map record_of o ≡ opt_record_among (resources records.entry)) }
     ensures lawful { IfOk result (λ o. IfSome o (λ r. IsLawful r.rdata)) }
@@ -36,7 +36,7 @@ fn opt_record_among(alloc: Global, records: RecordIter<'_>) -> Result<Option<Rec
     Ok(None)
 }
 
-/// A record of type OPT, where its data is an option list.
+/// A record of type OPT, if its data is an option list.
 fn listed(alloc: Global, found: &RecordRef<'_>) -> Result<Option<Record>, OutOfMemory>
     requires { found.now.resource.rtype ≡ 41 }
     ensures value { IfOk result (λ o. option_map record_of o ≡ listed found.now.resource) }

@@ -25,7 +25,7 @@ pub fn add_edns_options<F: FnOnce(&mut OptBuilder) -> Result<(), BuildDataError>
     response.reopen(alloc, build)
 }
 
-/// Adds one option behind those of a reply's OPT record.
+/// Adds one option after those of a reply's OPT record.
 pub fn add_edns_option<D: ComposeOptData>(
     alloc: Global,
     response: &mut AdditionalBuilder,

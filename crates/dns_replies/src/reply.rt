@@ -17,7 +17,7 @@ pub fn mk_builder_for_target(alloc: Global) -> Result<MessageBuilder, OutOfMemor
     MessageBuilder::new(alloc)
 }
 
-/// The error reply to a query. An OPT record holds the code's upper eight bits, where it has room.
+/// The error reply to a query. An OPT record holds the code's upper eight bits, if it has room.
 #[tactic(auto, using(crate::proofs::ErrorReplies::reply_made))]
 pub fn mk_error_response(
     alloc: Global,
@@ -31,7 +31,7 @@ pub fn mk_error_response(
     with_code(reply.additional(), alloc, rcode)
 }
 
-/// The reply with an OPT record that holds the code, where it has room.
+/// The reply with an OPT record that holds the code, if it has room.
 fn with_code(
     reply: AdditionalBuilder,
     alloc: Global,

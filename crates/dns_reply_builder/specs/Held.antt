@@ -25,14 +25,14 @@ AddsTo section r (Begun b) after result = (c : ReplyBuilder) × (after ≡ Begun
 AddsTo section r (Rewritten m) after result = (result ≡ Err Order) × (after ≡ Rewritten m)
 AddsTo section r Lost after result = (result ≡ Err Order) × (after ≡ Lost)
 
--- and so is an option
+-- an option is added to a reply that wasn't rewritten
 abbrev pub AddsOptionTo : ℕ → List ℕ → ServiceReply → ServiceReply → Result (Unit {0}) AddError → Type 0
 AddsOptionTo code d (Begun b) after result = (c : ReplyBuilder) × (after ≡ Begun c) × (stage_of c ≡ 2)
     × OptionAdded code d (built_of b) (built_of c) result
 AddsOptionTo code d (Rewritten m) after result = (result ≡ Err Order) × (after ≡ Rewritten m)
 AddsOptionTo code d Lost after result = (result ≡ Err Order) × (after ≡ Lost)
 
--- it is rewritten once, or lost
+-- a reply is rewritten once, or lost
 abbrev pub RewritesTo : ReplyRule → ServiceReply → ServiceReply → Result (Unit {0}) OutOfMemory → Type 0
 RewritesTo rule (Begun b) after (Ok u) = (m : Built) × (after ≡ Rewritten m) × (m.message ≡ rewrite_by rule (built_of b).message)
 RewritesTo rule (Begun b) after (Err e) = after ≡ Lost

@@ -11,7 +11,7 @@
 //!
 //! - `add` reads a record in wire form, and refuses data that hasn't the shape of its type. `add_plain` takes a `PlainRecord`, whose
 //!   name and data are borrowed, and writes it as it is.
-//! - `ServiceReply` is such a reply from call to call: begun, rewritten, or lost for want of memory.
+//! - `ServiceReply` is such a reply from call to call: begun, rewritten, or lost because memory ran out.
 //! - `dns_embed::rewrite_message` does it for a reply that is octets: it reads them, and composes the message anew.
 //!
 //! # What is proved
@@ -23,7 +23,7 @@
 //!
 //! # What a body could still get away with
 //!
-//! Want of memory at any call that takes some.
+//! Running out of memory at any call that takes some.
 #![tactic(auto)]
 
 mod plain_record;

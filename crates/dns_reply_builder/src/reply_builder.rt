@@ -81,7 +81,7 @@ impl ReplyBuilder {
         (reply, added)
     }
 
-    /// Goes on to a section, unless that is behind.
+    /// Goes on to a section, unless that comes after.
     fn onward(self, section: Section) -> ReplyBuilder
         ensures built { built_of result ≡ built_of self }
         ensures stage { stage_of result ≡ stage_onward section self }
@@ -138,7 +138,7 @@ impl ReplyBuilder {
         (reply, pushed)
     }
 
-    /// Adds an option behind those of the reply's OPT record, which becomes its last additional record (RFC 6891, section 6.1.1).
+    /// Adds an option after those of the reply's OPT record, which becomes its last additional record (RFC 6891, section 6.1.1).
     /// The additional section is begun by it. A refused call leaves what was built. TooLong if the option list would pass 65,535
     /// octets, or the reply.
     pub fn add_option(
@@ -195,7 +195,7 @@ impl ReplyBuilder {
     }
 }
 
-/// Adds an option behind those of a reply's OPT record.
+/// Adds an option after those of a reply's OPT record.
 fn push_option(
     alloc: Global,
     reply: &mut AdditionalBuilder,

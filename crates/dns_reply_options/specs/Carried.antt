@@ -12,6 +12,6 @@ abbrev pub lacks : {X : Type 0} → (ℕ → List ℕ → Option (Taken X)) → 
 lacks takes None = false
 lacks takes (Some s) = is_none (first_ok (items_of takes s.options))
 
--- a reply whose OPT record has no such option gets this one behind the others
+-- a reply whose OPT record has no such option gets this one after the others
 abbrev pub and_option : {X : Type 0} → (ℕ → List ℕ → Option (Taken X)) → ℕ → List ℕ → Msg → Msg
 and_option takes code octets m = if lacks takes (opt_of (wire m)) then with_option m code octets else m

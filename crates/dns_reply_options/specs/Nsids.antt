@@ -16,7 +16,7 @@ abbrev pub asks_nsid : Option OptState → Bool
 asks_nsid None = false
 asks_nsid (Some s) = is_some (first_ok (items_of (for_code 3 list_data) s.options))
 
--- the identifier of the replies to a request, where there is one and it is asked for
+-- the identifier of the replies to a request, if there is one and it is asked for
 abbrev pub nsid_for : {Meta : Type 0} → Option (List ℕ) → Req Meta → Option (List ℕ)
 nsid_for nsid r = if asks_nsid (opt_of r.octets) then nsid else None
 
@@ -24,7 +24,7 @@ nsid_for nsid r = if asks_nsid (opt_of r.octets) then nsid else None
 abbrev pub with_nsid : List ℕ → Msg → Msg
 with_nsid nsid m = and_option (for_code 3 list_data) 3 nsid m
 
--- cut where it has no room
+-- cut if it has no room
 abbrev pub nsid_by : List ℕ → Option ℕ → Msg → Msg
 nsid_by nsid n m = sized n (with_nsid nsid m)
 

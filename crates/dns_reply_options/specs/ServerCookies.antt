@@ -35,7 +35,7 @@ reply_cookie secret now address (Bare c) = Some (response secret c now address)
 reply_cookie secret now address (Wrong c) = Some (response secret c now address)
 reply_cookie secret now address (Good c) = Some (lasting secret now address c)
 
--- the cookie of the replies to a request, where there is a secret
+-- the cookie of the replies to a request, if there is a secret
 abbrev pub cookie_for : {Meta : Type 0} → Option (List ℕ) → Req Meta → Option Cookie
 cookie_for None r = None
 cookie_for (Some secret) r = reply_cookie secret (r.received_secs % 2 ^ 32) r.client_addr.ip (verdict secret r)
@@ -44,7 +44,7 @@ cookie_for (Some secret) r = reply_cookie secret (r.received_secs % 2 ^ 32) r.cl
 abbrev pub with_cookie : Cookie → Msg → Msg
 with_cookie c m = and_option (for_code 10 cookie_data) 10 (cookie_octets c) m
 
--- cut where it has no room
+-- cut if it has no room
 abbrev pub cookie_by : CookiePost → Msg → Msg
 cookie_by p m = sized p.limit (with_cookie p.cookie m)
 

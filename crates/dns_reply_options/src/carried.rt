@@ -13,7 +13,7 @@ use dns_opt::ComposeOptData;
 use dns_service::{add_edns_option, cut_fits};
 use std::alloc::Global;
 
-/// Adds an option behind those of a reply's OPT record, where it has room.
+/// Adds an option after those of a reply's OPT record, if it has room.
 pub(crate) fn put<D: ComposeOptData>(
     alloc: Global,
     reply: &mut AdditionalBuilder,
@@ -28,7 +28,7 @@ pub(crate) fn put<D: ComposeOptData>(
     }
 }
 
-/// A rewritten reply over UDP has no more octets than the hint allows, and 512 where the hint allows less.
+/// A rewritten reply over UDP has no more octets than the hint allows, and 512 if the hint allows less.
 pub fn replies_fit()
     ensures { (hint : Option ℕ) (m : Msg) → length (wire (sized (Some (limit hint)) m)) ≤ limit hint }
 {

@@ -79,7 +79,7 @@ fn now_of<Meta>(request: &Request<Meta>) -> Serial
     Serial((request.received_secs() % 4294967296) as u32)
 }
 
-/// The cookie of the replies to a request, where there is a secret.
+/// The cookie of the replies to a request, if there is a secret.
 pub(crate) fn cookie_for<Meta>(secret: &Option<[u8; 16]>, request: &Request<Meta>) -> Option<Cookie>
     ensures { result ≡ cookie_for secret.now request.now }
 {

@@ -9,7 +9,7 @@ use dns_rewriting::{RewrittenFuture, RewrittenStream, call_rewritten};
 use dns_service::{OutOfMemory, Request, Service};
 use std::alloc::Global;
 
-/// A service whose replies to requests with a client cookie carry a server cookie, where there is a secret.
+/// A service whose replies to requests with a client cookie carry a server cookie, if there is a secret.
 #[derive(Drop)]
 pub struct ServerCookieSvc<S> {
     next: S,

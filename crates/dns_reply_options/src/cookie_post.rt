@@ -23,7 +23,7 @@ use std::alloc::Global;
 pub struct CookiePost {
     /// The client cookie of the request, and a server cookie.
     pub cookie: Cookie,
-    /// How many octets a reply may take, where that is limited.
+    /// How many octets a reply may take, if that is limited.
     pub limit: Option<u16>,
 }
 

@@ -16,7 +16,7 @@
 //!
 //! # What is proved
 //!
-//! - Each answer is that of the service inside, with the option where its reply has an OPT record without one.
+//! - Each answer is that of the service inside, with the option if its reply has an OPT record without one.
 //! - The cookie is a function of the secret, the time of the request, the client's address and the cookie that came.
 //! - A reply over UDP has at most as many octets as its hint allows (`replies_fit`).
 //!

@@ -22,7 +22,7 @@ use std::alloc::Global;
 pub struct NsidPost {
     /// The identifier.
     pub nsid: Nsid,
-    /// How many octets a reply may take, where that is limited.
+    /// How many octets a reply may take, if that is limited.
     pub limit: Option<u16>,
 }
 

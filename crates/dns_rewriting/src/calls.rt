@@ -15,15 +15,15 @@ use std::alloc::Global;
 
 /// A rule for the replies to a request, of what was found in it before the service inside was called.
 pub trait RuleOf<T>: Rewrite {
-    /// The rewritten reply, by what was found and how many octets a reply may take, where that is limited.
+    /// The rewritten reply, by what was found and how many octets a reply may take, if that is limited.
     ghost rewriting_of: { T → Option ℕ → Msg → Msg };
 
-    /// The rule of what was found, for replies of so many octets at most, where that is limited.
+    /// The rule of what was found, for replies of that many octets at most, if that is limited.
     fn rule_of(found: T, limit: Option<u16>) -> Self
         ensures { Self.rewriting result ≡ rewriting_of found limit };
 }
 
-/// Calls a service. Where something was found in the request, its replies are rewritten by the rule of that.
+/// Calls a service. If something was found in the request, its replies are rewritten by the rule of that.
 pub fn call_rewritten<S: Service<Meta>, Meta, T: Drop, R: RuleOf<T>>(
     alloc: Global,
     next: &S,
@@ -41,7 +41,7 @@ pub fn call_rewritten<S: Service<Meta>, Meta, T: Drop, R: RuleOf<T>>(
     Ok(RewrittenFuture::new(future, rule))
 }
 
-/// The rule, where something was found.
+/// The rule, if something was found.
 fn rule_where<T: Drop, R: RuleOf<T>>(found: Option<T>, limit: Option<u16>) -> Option<R>
     ensures { (a : Answer) → by_rule R.rewriting result a ≡ by_rule (λ t. R.rewriting_of t limit) found a }
 {
@@ -51,7 +51,7 @@ fn rule_where<T: Drop, R: RuleOf<T>>(found: Option<T>, limit: Option<u16>) -> Op
     }
 }
 
-/// How many octets the replies to a request may take, where that is limited, by the hint that it has now.
+/// How many octets the replies to a request may take, if that is limited, by the hint that it has now.
 fn limit_now<Meta>(request: &Request<Meta>) -> Option<u16>
     ensures { result ≡ limit_over request.now.transport (limit (hint_at_entry request.now)) }
 {

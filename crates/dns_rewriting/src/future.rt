@@ -8,7 +8,7 @@ use dns_layers::Rewrite;
 use dns_service::{OutOfMemory, Polled, ReplyFuture};
 use std::alloc::Global;
 
-/// The replies of the future inside, each rewritten by a rule where there is one.
+/// The replies of the future inside, each rewritten by a rule if there is one.
 #[derive(Drop)]
 pub struct RewrittenFuture<F, R> {
     inner: F,

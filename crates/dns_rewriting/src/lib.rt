@@ -1,7 +1,7 @@
 //! Replies of a service that are rewritten on their way: what the call of a layer gives that has no reply of its own.
 //!
 //! - `RewrittenFuture` and `RewrittenStream` are future and stream of the service inside, with a rule or none. Each reply is
-//!   rewritten by the rule, where there is one.
+//!   rewritten by the rule, if there is one.
 //! - `call_rewritten` calls the service inside. The rule is made of what was found in the request before the call, and of how many
 //!   octets a reply may take. That is by the hint that the request has after it.
 //! - `RuleOf` makes such a rule.
@@ -17,9 +17,9 @@
 //!
 //! # What is proved
 //!
-//! - Each answer is that of the service inside, its reply rewritten by the rule where there is one (`by_rule`).
+//! - Each answer is that of the service inside, its reply rewritten by the rule if there is one (`by_rule`).
 //! - How many items are left is what the stream inside says.
-//! - A call changes nothing of the request but its hint and its reserved octets, and nothing where it is refused.
+//! - A call changes nothing of the request but its hint and its reserved octets, and nothing if it is refused.
 //!
 //! # What a body could still get away with
 //!

@@ -7,7 +7,7 @@ use dns_layers::{Rewrite, rewrite_answer};
 use dns_service::{OutOfMemory, Polled, ReplyStream, ServiceResult};
 use std::alloc::Global;
 
-/// The replies of the stream inside, each rewritten by a rule where there is one.
+/// The replies of the stream inside, each rewritten by a rule if there is one.
 #[derive(Drop)]
 pub struct RewrittenStream<S, R> {
     pub(crate) inner: S,
@@ -45,7 +45,7 @@ fn rewrite_polled<R: Rewrite>(
     }
 }
 
-/// Rewrites in place the reply in an answer, where there is a rule.
+/// Rewrites in place the reply in an answer, if there is a rule.
 fn rewrite_where<R: Rewrite>(
     rule: &Option<R>,
     alloc: Global,

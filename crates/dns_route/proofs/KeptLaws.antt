@@ -30,7 +30,7 @@ mapped : (p : ℕ × List ℕ) (x : Option (List (ℕ × List ℕ))) (ps : List 
 mapped p None ps e = cc
 mapped p (Some qs) ps e = (qs, refl, cc)
 
--- the options by the first one, and those behind it
+-- the options by the first one, and those after it
 pub first_pair : (n : ℕ) (o : List ℕ) (ps : List (ℕ × List ℕ)) (c : ℕ) (d r : List ℕ) → options_up_to n o ≡ Some ps → first_option o ≡ Some (c, d, r) → (m : ℕ) × (qs : List (ℕ × List ℕ)) × (options_up_to m r ≡ Some qs) × (ps ≡ (c, d) ∷ qs)
 first_pair zero [] ps c d r e f = cc
 first_pair zero (a ∷ o) ps c d r e f = cc
@@ -74,7 +74,7 @@ ended k o left kept w f =
     sym (append-nil kept) ∙ (ap (λ l. kept ++ l) (sym n) ∙ w.same)
 
 module _ (k : KeptKinds) (o left kept : List ℕ) (c : ℕ) (d r : List ℕ) (w : IsWalked k o left kept) (f : first_option left ≡ Some (c, d, r)) where
-  -- an option has room behind those that are kept
+  -- an option has room after those that are kept
   pub has_room : length kept + 4 + length d ≤ 65535
   has_room = omega (arith, first_size left c d r f, w.room)
 

@@ -48,7 +48,7 @@ whole_mapped : (qs : List Question) → whole_list (map (λ (q : Question). Ok q
 whole_mapped [] = refl
 whole_mapped (q ∷ qs) = ap (in_front (Ok q)) (whole_mapped qs)
 
--- questions behind which a section is reached
+-- questions after which a section is reached
 questions_copied : (i : Items Question) (qs : List Question) (xs : List ResourceRecord) (j : Items Standing) → i.0 ≡ qs → ReadsBack xs (reached i.1 j) → whole_list (all_of i) ≡ Ok qs
 questions_copied (ps, Ok end) qs xs j e h = whole_mapped ps ∙ ap (λ (l : List Question). Ok l) e
 questions_copied (ps, Err x) qs xs j e h = absurd h
@@ -82,7 +82,7 @@ module _ (back : AreReadBack) where
 -- ---- error replies
 
 module _ (f : Msg → List ResourceRecord) (bare : (b : Built) (q : Question) → f (with_question b q).message ≡ f b.message) (headed : (b : Built) (h : Header) → f (with_header b h).message ≡ f b.message) where
-  -- a section that is empty before and behind the questions
+  -- a section that is empty before and after the questions
   section_copied : (b : Built) (qs : List Question) → f (with_copied b qs).0.message ≡ f b.message
   section_copied b [] = refl
   section_copied b (q ∷ qs) = elim (within_limit (with_question b q)) as (λ (c : Bool). f (if c then with_copied (with_question b q) qs else (b, false)).0.message ≡ f b.message) [ true ↦ section_copied (with_question b q) qs ∙ bare b q | false ↦ refl ]

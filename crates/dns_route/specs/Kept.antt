@@ -45,6 +45,6 @@ abbrev pub kept_checked : OptState → Result ⊤ ParseError → Result OptState
 kept_checked s (Ok _) = Ok s
 kept_checked s (Err e) = Err e
 
--- what is kept of an OPT record, refused where one of its options is unreadable
+-- what is kept of an OPT record, refused if one of its options is unreadable
 abbrev pub kept_opt : ℕ → KeptKinds → OptState → Result OptState ParseError
 kept_opt size k s = kept_checked (kept_record size k s) (checked s.options)

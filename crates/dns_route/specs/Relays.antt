@@ -16,7 +16,7 @@ use Rattle.dns_route.specs.Turns.{TurnAnswer}
 abbrev pub SentAnswer : Type 0
 SentAnswer = Polled (Result (List ℕ) SendError)
 
--- the reply that a message begins, or FormatError where an option of its OPT record is unreadable
+-- the reply that a message begins, or FormatError if an option of its OPT record is unreadable
 abbrev pub read_reply : Result ReplyState ParseError → Result ReplyState ServiceError
 read_reply (Ok r) = Ok r
 read_reply (Err e) = Err FormatError
@@ -35,7 +35,7 @@ relayed_by answer query k (Err e) = Ready (Err InternalError)
 abbrev pub relayed : (RequestState → ℕ → SentAnswer) → Req (Unit {0}) → ℕ → TurnAnswer
 relayed answer r k = relayed_by answer r.octets k (request_of r.octets)
 
--- the request that is sent, where it can be read
+-- the request that is sent, if it can be read
 abbrev pub readable_request : Result RequestState ParseError → Option RequestState
 readable_request (Ok m) = Some m
 readable_request (Err e) = None

@@ -37,7 +37,7 @@ reply_read o = reply_by o (opt_of o)
 abbrev pub IsRefused : {A : Type 0} → Result A ParseError → Type 0
 IsRefused read = (e : ParseError) × (read ≡ Err e)
 
--- a reply is begun that has this state; FormatError exactly where an option is unreadable
+-- a reply is begun that has this state; FormatError exactly if an option is unreadable
 abbrev pub BeginsReply : {R : Type 0} → (R → ReplyState) → Result ReplyState ParseError → Result R ReplyError → Type 0
 BeginsReply state read (Ok r) = read ≡ Ok (state r)
 BeginsReply state read (Err (Service FormatError)) = IsRefused read
@@ -55,7 +55,7 @@ begun (Some s) = s
 abbrev pub with_reply_option : ℕ → List ℕ → ReplyState → ReplyState
 with_reply_option code d r = record r { opt = Some (opt_state (begun r.opt).head ((begun r.opt).options ++ option_octets code d)) }
 
--- an option is added; refused LongOptData exactly where the options would pass 65,535 octets, and a refused call leaves the reply
+-- an option is added; refused LongOptData exactly if the options would pass 65,535 octets, and a refused call leaves the reply
 abbrev pub Adds : ℕ → List ℕ → ReplyState → ReplyState → Result ⊤ BuildDataError → Type 0
 Adds code d old new (Ok _) = Fits (begun old.opt).options (length d) × (new ≡ with_reply_option code d old)
 Adds code d old new (Err LongOptData) = (65535 < length (begun old.opt).options + 4 + length d) × (new ≡ old)
@@ -71,7 +71,7 @@ reply_with_opt opt (Err e) = Err e
 abbrev pub reply_message : ReplyState → Result Msg ParseError
 reply_message r = reply_with_opt r.opt (copied r.octets)
 
--- a message is composed; FormatError exactly where it can't be read, else InternalError exactly above 65,535 octets
+-- a message is composed; FormatError exactly if it can't be read, else InternalError exactly above 65,535 octets
 abbrev pub Composes : Result Msg ParseError → Result Built ReplyError → Type 0
 Composes read (Ok b) = (read ≡ Ok b.message) × (b.limit ≡ 65535) × (length (wire b.message) ≤ 65535)
 Composes read (Err (Service FormatError)) = IsRefused read
@@ -80,7 +80,7 @@ Composes read (Err (Service NotImplemented)) = ⊥
 Composes read (Err (Service Refused)) = ⊥
 Composes read (Err NoMemory) = Unit {0}
 
--- what may be kept beside a reply: the message that is built of it, so that the reply isn't read for it
+-- what may be kept besides a reply: the message that is built of it, so that the reply isn't read for it
 abbrev pub KeepsBuilt : ReplyState → Option Built → Type 0
 KeepsBuilt r None = Unit {0}
 KeepsBuilt r (Some b) = Composes (reply_message r) (Ok b)

@@ -32,7 +32,7 @@ request_opt m (Err e) = Err e
 abbrev pub sent_size : ℕ
 sent_size = 1232
 
--- a message with the DO bit and the client subnets of an OPT record, refused where one of its options is unreadable
+-- a message with the DO bit and the client subnets of an OPT record, refused if one of its options is unreadable
 abbrev pub request_by : Msg → Option OptState → Result RequestState ParseError
 request_by m None = Ok (record { message = m; dnssec_ok = false; options = [] })
 request_by m (Some s) = request_opt m (kept_opt sent_size Subnets s)
@@ -68,7 +68,7 @@ request_error_text NoMemory = codes "out of memory"
 abbrev pub AddsTo : ℕ → List ℕ → RequestState → RequestState → Result ⊤ BuildDataError → Type 0
 AddsTo code d old new result = Pushed code d old.options new.options result × (new ≡ record old { options = new.options })
 
--- the OPT record that is sent, where DO is set or there are options
+-- the OPT record that is sent, if DO is set or there are options
 abbrev pub sent_opt : Bool → List ℕ → Option OptState
 sent_opt true o = Some (opt_state (plain_head sent_size true) o)
 sent_opt false [] = None

@@ -30,12 +30,12 @@ turn_item (Err e) = Err InternalError
 abbrev pub last_turn : ℕ
 last_turn = 18446744073709551615
 
--- the item with which the turns end at a number, if they do; behind the last number there is no other
+-- the item with which the turns end at a number, if they do; after the last number there is no other
 abbrev pub end_by_turn : ℕ → TurnAnswer → Option Item
 end_by_turn n Pending = if nat_eq n last_turn then Some (Err InternalError) else None
 end_by_turn n (Ready r) = Some (turn_item r)
 
--- the answer to the poll at which a turn is made, and to one behind it, where go answers that if the turns go on
+-- the answer to the poll at which a turn is made, and to one after it, where go answers that if the turns go on
 abbrev pub now_by : Option Item → Answer
 now_by None = Pending
 now_by (Some item) = Ready (Some item)

@@ -18,7 +18,7 @@ use std::alloc::Global;
 type Answered = Polled<Result<Message, SendError>>;
 
 /// A single service over a transport. A request that can't be read is InternalError and isn't sent; a message that is
-/// answered begins the reply, or is FormatError where an option of its OPT record is unreadable; an error of the transport
+/// answered begins the reply, or is FormatError if an option of its OPT record is unreadable; an error of the transport
 /// is SERVFAIL, with an extended error of its text.
 #[derive(Drop)]
 pub struct ClientTransportToSingleService<C> {
@@ -93,7 +93,7 @@ impl SingleService for BoxClientTransportToSingleService {
     }
 }
 
-/// The request as it is sent on, where it can be read.
+/// The request as it is sent on, if it can be read.
 fn readable(alloc: Global, request: &Request<()>) -> Result<Option<RequestMessage>, OutOfMemory>
     ensures { IfOk result (λ m. m ≡ readable_request (request_of request.now.octets)) }
 {
@@ -104,7 +104,7 @@ fn readable(alloc: Global, request: &Request<()>) -> Result<Option<RequestMessag
     }
 }
 
-/// What a turn answers where a transport gave this answer to the query: the reply that the message begins, FormatError where an
+/// What a turn answers if a transport gave this answer to the query: the reply that the message begins, FormatError if an
 /// option of its OPT record is unreadable, or SERVFAIL with the text of the error.
 pub fn relay_answer(alloc: Global, query: &Message, answer: Answered) -> Result<Turned, OutOfMemory>
     ensures { IfOk result (λ p. p ≡ relay_answer query.now answer) }

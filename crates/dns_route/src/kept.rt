@@ -94,7 +94,7 @@ pub(crate) fn plain(record: OptRecord, size: u16, dnssec_ok: bool) -> OptRecord
     plain
 }
 
-/// What is kept of an OPT record, of another size; refused where one of its options is unreadable.
+/// What is kept of an OPT record, of another size; refused if one of its options is unreadable.
 pub(crate) fn kept_opt(
     alloc: Global,
     size: u16,

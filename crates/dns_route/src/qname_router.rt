@@ -33,7 +33,7 @@ impl<S> Model for QnameRouter<S> {
 }
 
 impl<S: SingleService> QnameRouter<S> {
-    /// A router that has no service. Names are hashed from a fixed seed: where strangers choose names that are added,
+    /// A router that has no service. Names are hashed from a fixed seed: if strangers choose names that are added,
     /// `new_with_seed` is the call to take.
     pub fn new(alloc: Global) -> Self
         ensures { result ≡ [] }
@@ -53,7 +53,7 @@ impl<S: SingleService> QnameRouter<S> {
         }
     }
 
-    /// Adds a service under a name, behind those that were added before. A refused call leaves the router.
+    /// Adds a service under a name, after those that were added before. A refused call leaves the router.
     pub fn add(&mut self, alloc: Global, name: Name, service: S) -> Result<(), OutOfMemory>
         ensures ok { OnOk result (self.new ≡ self.old ++ (name, service) ∷ []) }
         ensures err { OnErr result (self.new ≡ self.old) }

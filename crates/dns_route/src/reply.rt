@@ -23,16 +23,16 @@ pub trait ComposeReply: Sized {
     /// The octets of the message that a reply is composed of, and the OPT record that it gets.
     ghost state: { Self → ReplyState };
 
-    /// Begins a reply with a message. FormatError where one of its options is unreadable.
+    /// Begins a reply with a message. FormatError if one of its options is unreadable.
     fn from_message(alloc: Global, message: &MessageRef<'_>) -> Result<Self, ReplyError>
         ensures { BeginsReply state (reply_read message.now) result };
 
-    /// Adds an option to the reply's OPT record. Refused LongOptData exactly where the options would pass 65,535 octets; a
+    /// Adds an option to the reply's OPT record. Refused LongOptData exactly if the options would pass 65,535 octets; a
     /// refused call leaves the reply.
     fn add_opt<D: ComposeOptData>(&mut self, alloc: Global, opt: &D) -> Result<(), BuildDataError>
         ensures { Adds (D.code_of opt.now) (D.octets opt.now) (state self.old) (state self.new) result };
 
-    /// The reply, which may be added to. FormatError where a section or its data is unreadable, else InternalError where
+    /// The reply, which may be added to. FormatError if a section or its data is unreadable, else InternalError if
     /// something has no room in 65,535 octets.
     fn additional_builder_stream_target(
         &self,
@@ -71,7 +71,7 @@ impl ComposeReply for ReplyMessage {
         }
     }
 
-    /// An OPT record whose numbers are all 0 is begun where there was none. Refused LongOptData exactly where its options
+    /// An OPT record whose numbers are all 0 is begun if there was none. Refused LongOptData exactly if its options
     /// would pass 65,535 octets.
     fn add_opt<D: ComposeOptData>(&mut self, alloc: Global, opt: &D) -> Result<(), BuildDataError> {
         self.built = None;
@@ -81,7 +81,7 @@ impl ComposeReply for ReplyMessage {
         }
     }
 
-    /// The message with names uncompressed, without its OPT records, and the kept one last. InternalError where that
+    /// The message with names uncompressed, without its OPT records, and the kept one last. InternalError if that
     /// passes 65,535 octets.
     fn additional_builder_stream_target(
         &self,

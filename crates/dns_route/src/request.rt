@@ -120,7 +120,7 @@ impl RequestMessage {
         self.opt.dnssec_ok()
     }
 
-    /// Adds an option. Refused LongOptData exactly where the options would pass 65,535 octets; a refused call leaves the
+    /// Adds an option. Refused LongOptData exactly if the options would pass 65,535 octets; a refused call leaves the
     /// request.
     pub fn add_opt<D: ComposeOptData>(
         &mut self,
@@ -132,7 +132,7 @@ impl RequestMessage {
         self.opt.push(alloc, opt)
     }
 
-    /// The message that is sent: its names uncompressed, and last an OPT record of size 1,232 where DO is set or there are
+    /// The message that is sent: its names uncompressed, and last an OPT record of size 1,232 if DO is set or there are
     /// options.
     pub fn to_message(&self, alloc: Global) -> Result<Message, PushError>
         ensures { Sends (request_sent self.now) result }

@@ -50,7 +50,7 @@ pub trait SendRequest: Drop {
     /// The answer to a request at number k.
     ghost answer: { Self → RequestState → ℕ → SentAnswer };
 
-    /// The answer to a request, where it is asked for at number k.
+    /// The answer to a request, if it is asked for at number k.
     fn poll_response(
         &self,
         alloc: Global,

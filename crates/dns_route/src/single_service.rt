@@ -12,7 +12,7 @@ use std::alloc::Global;
 pub type Turned = Polled<Result<ReplyMessage, ServiceError>>;
 
 /// Answers a request with one reply or error, which may take turns: whoever asks counts them from 0, and makes none
-/// behind one that isn't pending.
+/// after one that isn't pending.
 pub trait SingleService: Drop {
     /// The answer to a request at turn k.
     ghost answer: { Self → Request (Unit {0}) → ℕ → TurnAnswer };

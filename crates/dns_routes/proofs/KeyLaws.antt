@@ -36,7 +36,7 @@ spell_same (l ∷ ls) (m ∷ ms) e =
     let c : ls ≡ ms = spell_same ls ms b in
     cc
 
--- octets in lower case are the same exactly where the names are the same up to ASCII case
+-- octets in lower case are the same exactly if the names are the same up to ASCII case
 pub same_key : (a b : List (List ℕ)) → bytes_eq (name_key a) (name_key b) ≡ same_name a b
 same_key a b =
     let d = bytes_decides (name_key a) (name_key b) in
@@ -85,7 +85,7 @@ module _ {S : Type 0} (rs : List (Route S)) (r : Route S) where
   within_by (Some i) false w = omega (arith, length-append rs (r ∷ []), w)
 
   module _ {H : Type 0} (m n : HashMap (SmallVec ℕ) ℕ H) (k : List ℕ) (place : ℕ) where
-    -- a place more is kept, behind all others
+    -- a place more is kept, after all others
     pub known_more : Knows m rs → k ≡ name_key r.0 → place ≡ length rs → ((o : List ℕ) → place_under n o ≡ (if bytes_eq k o then Some place else place_under m o)) → Knows n (rs ++ r ∷ [])
     known_more h e l put =
         let turned : (o : List ℕ) → bytes_eq k o ≡ bytes_eq o (name_key r.0) = λ o. nat_list_eq_equiv.symm k o ∙ ap (bytes_eq o) e in

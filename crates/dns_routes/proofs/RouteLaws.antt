@@ -90,7 +90,7 @@ pub record IsTail (q s : List (List ℕ)) : Type 0 where
   pub short : length s ≤ length q
   pub tail : s ≡ drop (length q - length s) q
 
--- a name ends the question's and has as many labels as the question's end, exactly where it is the same as that
+-- a name ends the question's and has as many labels as the question's end, exactly if it is the same as that
 same_as : (q s : List (List ℕ)) → IsTail q s → (n : List (List ℕ)) → (ends_name q n && nat_eq (length n) (length s)) ≡ same_name s n
 same_as q s t n =
     let there : (ends_name q n && nat_eq (length n) (length s)) ≡ true → same_name s n ≡ true =
@@ -164,7 +164,7 @@ module _ {S : Type 0} (q : List (List ℕ)) where
         in
         h ∙ sym c
 
-    -- a service that is found under the rest of a name is the one for the name, where none was found under more of it
+    -- a service that is found under the rest of a name is the one for the name, if none was found under more of it
     pub found : (rs : List (Route S)) (o : List ℕ) (v : S) → AllUnder (length s + 1) q rs → o ≡ name_key s → Some v ≡ option_map (λ (r : Route S). r.1) (last_under o rs) → Some v ≡ chosen q rs
     found rs o v u e h = found_by rs u v (last_under (name_key s) rs) refl (h ∙ ap (λ l. option_map (λ (r : Route S). r.1) (last_under l rs)) e)
 
@@ -183,7 +183,7 @@ module _ {S : Type 0} (q : List (List ℕ)) where
     mapped_none None h = refl
     mapped_none (Some x) h = absurd (cc)
 
-    -- where none is found under the rest of a name either
+    -- if none is found under the rest of a name either
     pub missed : (rs : List (Route S)) (o : List ℕ) → AllUnder (length s + 1) q rs → o ≡ name_key s → None ≡ option_map (λ (r : Route S). r.1) (last_under o rs) → AllUnder (length s) q rs
     missed rs o u e h =
         let k : last_under o rs ≡ None = mapped_none (last_under o rs) h in
@@ -198,7 +198,7 @@ module _ {S : Type 0} (q : List (List ℕ)) where
   none_matching [] u = refl
   none_matching (r ∷ rs) u = ap (λ b. cond b (r ∷ matching q rs) (matching q rs)) (none_step r (ends_name q r.0) u.0) ∙ none_matching rs u.1
 
-  -- where none is found under any rest of a name
+  -- if none is found under any rest of a name
   pub none_chosen : (rs : List (Route S)) → AllUnder 0 q rs → None ≡ chosen q rs
   none_chosen rs u = sym (ap (λ (ms : List (Route S)). option_map (λ (r : Route S). r.1) (last_or None (of_labels (most_labels ms) ms))) (none_matching rs u))
 

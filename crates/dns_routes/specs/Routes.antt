@@ -21,7 +21,7 @@ abbrev pub most_labels : {S : Type 0} → List (Route S) → ℕ
 most_labels [] = 0
 most_labels (r ∷ rs) = max (length r.0) (most_labels rs)
 
--- those whose names have so many labels
+-- the routes whose names have this number of labels
 abbrev pub of_labels : {S : Type 0} → ℕ → List (Route S) → List (Route S)
 of_labels {S} n rs = filter (λ (r : Route S). nat_eq (length r.0) n) rs
 
@@ -29,6 +29,6 @@ of_labels {S} n rs = filter (λ (r : Route S). nat_eq (length r.0) n) rs
 abbrev pub chosen_route : {S : Type 0} → List (List ℕ) → List (Route S) → Option (Route S)
 chosen_route q rs = last_or None (of_labels (most_labels (matching q rs)) (matching q rs))
 
--- its service
+-- the service of the route that is chosen for a name
 abbrev pub chosen : {S : Type 0} → List (List ℕ) → List (Route S) → Option S
 chosen {S} q rs = option_map (λ (r : Route S). r.1) (chosen_route q rs)

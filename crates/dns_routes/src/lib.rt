@@ -2,7 +2,7 @@
 //! choose by it.
 //!
 //! - `Routes` holds names and their values, in the order in which they were added. To contracts it is that list.
-//! - `add` adds a name and its value after the others. The same name may be added again.
+//! - `add` adds a name and its value after the others. A name may be added more than once.
 //! - `for_name` gives the value for a name.
 //! - `Seed` is what the hashes of names begin from: `Seed::fixed` for names that nobody else picks, `Seed::random`
 //!   for names that strangers may add.

@@ -19,7 +19,7 @@ pub(crate) type Key = SmallVec<u8, 32>;
 /// Places of services, found by the octets of names.
 pub(crate) type PlacesByName = HashMap<Key, usize, Seed>;
 
-/// Appends a label in lower case behind its length.
+/// Appends a label in lower case after its length.
 fn push_folded(label: &[u8], octets: &mut Vec<u8>) -> Result<(), OutOfMemory>
     requires { length label.now < 256 }
     ensures { OnOk result (octets.new.items ≡ octets.old.items ++ (length label.now ∷ map to_ascii_lowercase label.now)) }
@@ -28,7 +28,7 @@ fn push_folded(label: &[u8], octets: &mut Vec<u8>) -> Result<(), OutOfMemory>
     push_lower(label, octets)
 }
 
-/// The octets of a name in lower case, in memory for so many at first.
+/// The octets of a name in lower case, in memory for that many at first.
 pub(crate) fn folded_octets(
     alloc: Global,
     name: Labels<'_>,
@@ -75,7 +75,7 @@ fn reserve_both<S: Drop>(names: &mut Vec<Name>, services: &mut Vec<S>) -> Result
     Ok(())
 }
 
-/// Makes room for a name and its service, and keeps the place behind those that are there under the name's octets.
+/// Makes room for a name and its service, and keeps the place after those that are there under the name's octets.
 fn place_next<S: Drop>(
     names: &mut Vec<Name>,
     services: &mut Vec<S>,
@@ -104,7 +104,7 @@ fn push_both<S: Drop>(names: &mut Vec<Name>, services: &mut Vec<S>, route: (Name
     services.push_reserved(route.1);
 }
 
-/// Adds a name and its service behind those that are there.
+/// Adds a name and its service after those that are there.
 pub(crate) fn put_route<S: Drop>(
     names: &mut Vec<Name>,
     services: &mut Vec<S>,

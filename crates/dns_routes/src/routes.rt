@@ -47,7 +47,7 @@ impl<S: Drop> Routes<S> {
         }
     }
 
-    /// Adds a name and its service behind those that are there. A refused call leaves them.
+    /// Adds a name and its service after those that are there. A refused call leaves them.
     pub fn add(&mut self, alloc: Global, name: Name, service: S) -> Result<(), OutOfMemory>
         ensures ok { OnOk result (self.new ≡ self.old ++ (name, service) ∷ []) }
         ensures err { OnErr result (self.new ≡ self.old) }
@@ -93,7 +93,7 @@ impl<S: Drop> Routes<S> {
         }
     }
 
-    /// The service for a name: the look-ups are of the name without so many first labels, of that without its first label,
+    /// The service for a name: the look-ups are of the name without that many first labels, of that without its first label,
     /// and so on to the root.
     fn deepest(
         &self,

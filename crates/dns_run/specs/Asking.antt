@@ -7,7 +7,7 @@ use Rattle.dns_flood.specs.Ask.{Ask}
 unfoldable pub asked_line : CachedState → Ask → List ℕ
 asked_line s ask = (asked_state s ask).line
 
--- the rules and the cache behind it
+-- the rules and the cache after it
 unfoldable pub asked_behind : CachedState → Ask → CachedState
 asked_behind s ask = record s { cached = (asked_state s ask).behind }
 

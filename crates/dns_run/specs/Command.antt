@@ -7,7 +7,7 @@ use Rattle.dns_trace.specs.declared.reason.Reason.{Reason}
 use Rattle.dns_run.specs.declared.command.Command.{Command}
 use Rattle.dns_run.specs.declared.command.Command.TheVariants.{Replay, Steps, Trace, Flood, Cache}
 
--- where both are numbers
+-- if both are numbers
 abbrev pub flood_of : Result ℕ Reason → Result ℕ Reason → Option Command
 flood_of (Ok seed) (Ok count) = Some (Flood seed count)
 flood_of (Ok seed) (Err e) = None

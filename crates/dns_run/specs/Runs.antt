@@ -1,5 +1,5 @@
 -- What a run answers, by what was read and written. In each, a and b are what is left of the source before and after the call. What
--- the sink has taken before and after it are c and d; where tells, left and taken stand before them, they are the source and the
+-- the sink has taken before and after it are c and d; if tells, left and taken stand before them, they are the source and the
 -- sink themselves.
 use Rattle.std.specs.Prelude.{◌≡◌, ℕ, ◌+◌, ◌≤◌, List, [], ◌++◌, length, Result, Ok, Err, IsOk, IsErr}
 use Rattle.dns_io.specs.Causes.{Observed}
@@ -49,7 +49,7 @@ Says (Err WriteFault) read = IsErr read
 Says (Err OutOfMemory) read = Unit {0}
 Says (Err _) read = ⊥
 
--- what was read, by the status, where this is what a text says
+-- what was read, by the status, if this is what a text says
 abbrev pub ReadsSource : {E : Type 0} → (List ℕ → Result (Plan E) (ℕ × Reason)) → Status → List ℕ → List ℕ → Type 0
 ReadsSource read Done a b = Whole a b × IsOk (read a)
 ReadsSource read Refused a b = Whole a b × IsErr (read a)
@@ -94,14 +94,14 @@ RunWrites tells left (Cache capacity) s a b observed tell c d
     = Observed (tells b × observed) (tells a × tell) (WritesText s (text_or_refusal (cache_text capacity) (ask_script (left a))) c d)
 RunWrites tells left (Flood seed count) s a b observed tell c d = Observed observed tell (WritesText s (flood_text seed count) c d)
 
--- a script gives Done, and another text Refused, save for want of memory
+-- a script gives Done, and another text Refused, unless memory ran out
 abbrev pub Decides : {E : Type 0} → Status → Result (Plan E) (ℕ × Reason) → Type 0
 Decides Done read = IsOk read
 Decides Refused read = IsErr read
 Decides OutOfMemory read = Unit {0}
 Decides _ read = ⊥
 
--- a flood is done, save for want of memory
+-- a flood is done, unless memory ran out
 abbrev pub FloodDecides : Status → Type 0
 FloodDecides Done = Unit {0}
 FloodDecides OutOfMemory = Unit {0}

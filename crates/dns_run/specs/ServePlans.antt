@@ -14,8 +14,8 @@ use Rattle.dns_run.specs.declared.server_plan.ServePlan.{ServePlan}
 use Rattle.dns_run.specs.declared.status.Status.{Status}
 use Rattle.dns_run.specs.declared.status.Status.TheVariants.{Usage, OutOfMemory}
 
--- the plan has the address and the count of the words, which are of no such form exactly where that is told; want of memory is told
--- in place of either
+-- the plan has the address and the count of the words, which are of no such form exactly if that is told; running out of memory is
+-- reported in place of either
 abbrev pub HeedsWords : Result ServePlan Status → Option ServeWords → Type 0
 HeedsWords (Ok p) asked = asked ≡ Some (record { addr = p.addr; count = p.count })
 HeedsWords (Err Usage) asked = asked ≡ None

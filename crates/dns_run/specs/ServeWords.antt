@@ -9,7 +9,7 @@ use Rattle.dns_run.specs.declared.serve_words.ServeWords.{ServeWords}
 use Rattle.dns_run.specs.declared.status.Status.{Status}
 use Rattle.dns_run.specs.declared.status.Status.TheVariants.{Usage, OutOfMemory}
 
--- ADDR PORT COUNT, which stand behind the word
+-- ADDR PORT COUNT, which stand after the word
 unfoldable pub place_of : List (List ℕ) → Result ServeWords Reason
 place_of ws = do
   ip ← addr_of (word_at ws 1)
@@ -27,7 +27,7 @@ serve_words ws =
     if length ws == 4 then (if bytes_eq (word_at ws 0) (codes "serve") then if_read (place_of ws) else None)
     else None
 
--- the words were read, or are none of that form, unless memory was wanting
+-- the words were read, or are none of that form, unless memory ran out
 abbrev pub ReadsServe : Result ServeWords Status → Option ServeWords → Type 0
 ReadsServe (Ok w) asked = asked ≡ Some w
 ReadsServe (Err Usage) asked = asked ≡ None

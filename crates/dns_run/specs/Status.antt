@@ -16,7 +16,7 @@ status_number OutOfMemory = 6
 status_number TooLong = 7
 status_number HostFault = 8
 
--- the status where all was written, or why it wasn't
+-- the status if all was written, or why it wasn't
 abbrev pub status_once_written : Status → Result (Unit {0}) WriteError → Status
 status_once_written s (Ok u) = s
 status_once_written s (Err NoMemory) = OutOfMemory

@@ -67,7 +67,7 @@ impl AnswerScript<Event> for Recorded {
     }
 }
 
-/// The lines of what a cache of so many replies answers to the questions.
+/// The lines of what a cache of that many replies answers to the questions.
 #[derive(Drop)]
 pub(crate) struct Questions {
     pub(crate) capacity: u32,

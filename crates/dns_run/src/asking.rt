@@ -20,7 +20,7 @@ fn ask_line(alloc: Global, rules: &mut CachedRules, ask: Ask) -> Result<String, 
     rules.ask(alloc, ask)
 }
 
-/// Keeps the line of a question's answer back, behind others.
+/// Keeps the line of a question's answer back, after others.
 fn keep_answer(
     alloc: Global,
     text: &mut Vec<u8>,
@@ -94,7 +94,7 @@ fn write_asks<W: Sink>(
     Ok(())
 }
 
-/// Writes what an empty cache of so many replies in front of rules answers to questions.
+/// Writes what an empty cache of that many replies in front of rules answers to questions.
 #[tactic(auto, using(dns_flood::proofs::Batches::nothing_written))]
 fn write_cached<W: Sink>(
     alloc: Global,
@@ -114,7 +114,7 @@ fn write_cached<W: Sink>(
     }
 }
 
-/// Writes what an empty cache of so many replies in front of a script's rules answers to its questions.
+/// Writes what an empty cache of that many replies in front of a script's rules answers to its questions.
 pub(crate) fn write_answers<W: Sink>(
     alloc: Global,
     sink: &mut W,

@@ -16,9 +16,9 @@ pub enum Command {
     Steps,
     /// `trace`: a script as for `replay` is read, and written in one spelling.
     Trace,
-    /// `cache CAPACITY`: rules and questions are read, and what a cache of so many replies in front of the rules answers is written.
+    /// `cache CAPACITY`: rules and questions are read, and what a cache of that many replies in front of the rules answers is written.
     Cache { capacity: u32 },
-    /// `flood SEED COUNT`: so many events are made and served, and what is sent for them is counted.
+    /// `flood SEED COUNT`: that many events are made and served, and what is sent for them is counted.
     Flood { seed: u64, count: u32 },
 }
 
@@ -38,7 +38,7 @@ fn flood(seed: &[u8], count: &[u8]) -> Option<Command>
     })
 }
 
-/// A cache, where the word is a number from 1 to 65,536.
+/// A cache, if the word is a number from 1 to 65,536.
 fn cache(capacity: &[u8]) -> Option<Command>
     ensures value { result ≡ cache_of (number 20 65537 capacity.now) }
     ensures fit { IfSome result IsFit }
@@ -51,7 +51,7 @@ fn cache(capacity: &[u8]) -> Option<Command>
     }
 }
 
-/// A script, where the one word says how it is served, or that it is written.
+/// A script, if the one word says how it is served, or that it is written.
 fn script_command(word: &str) -> Option<Command>
     ensures { result ≡ script_command word.now }
 {

@@ -69,12 +69,12 @@ pub fn run<R: Source, W: Sink>(
     // The counts of faults rise with the two faults, and with no other status.
     ensures source_faults { SourceFaults result (R.faults source.old) (R.faults source.new) }
     ensures sink_faults { SinkFaults result (W.faults sink.old) (W.faults sink.new) }
-    // Where the source is too long or can't be read, nothing is written.
+    // If the source is too long or can't be read, nothing is written.
     ensures too_long { result ≡ Status.TooLong → sink.new ≡ sink.old }
     ensures unread { result ≡ Status.ReadFault → sink.new ≡ sink.old }
-    // What was read, by the status: for a script where the source tells, and for a flood nothing.
+    // What was read, by the status: for a script if the source tells, and for a flood nothing.
     ensures read { IfSome (command_of (map string_bytes words.now)) (λ k. RunReads R.tells R.left k result source.old source.new) }
-    // What was written for it, where the sink tells too.
+    // What was written for it, if the sink tells too.
     ensures written { IfSome (command_of (map string_bytes words.now)) (λ k. RunWrites R.tells R.left k result source.old source.new
         (W.tells sink.new) (W.tells sink.old) (W.taken sink.old) (W.taken sink.new)) }
     // Without a fault the words and the script decide.

@@ -18,7 +18,7 @@ pub struct ServeWords {
     pub count: u64,
 }
 
-/// ADDR PORT COUNT, behind the word.
+/// ADDR PORT COUNT, after the word.
 #[tactic(auto, unfolding(crate::specs::ServeWords::place_of))]
 fn place(alloc: Global, words: &[String]) -> Result<ServeWords, LineError>
     requires { length words.now ≡ 4 }

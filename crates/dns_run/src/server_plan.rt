@@ -59,13 +59,13 @@ pub fn serve_plan<R: Source, W: Sink>(
     source: &mut R,
     sink: &mut W,
 ) -> Result<ServePlan, Status>
-    // The plan is that of the words, which are of another form exactly where that is told. Then nothing is read or written.
+    // The plan is that of the words, which are of another form exactly if that is told. Then nothing is read or written.
     ensures words { HeedsWords result (serve_words (map string_bytes words.now)) }
     ensures untouched { result ≡ Err Status.Usage → (source.new ≡ source.old) × (sink.new ≡ sink.old) }
     // The counts of faults rise with the two faults, and with no other answer.
     ensures source_faults { SourceFaults (status_of result) (R.faults source.old) (R.faults source.new) }
     ensures sink_faults { SinkFaults (status_of result) (W.faults sink.old) (W.faults sink.new) }
-    // Where there is a plan, or the source is too long or can't be read, nothing is written.
+    // If there is a plan, or the source is too long or can't be read, nothing is written.
     ensures unwritten { IsOk result → sink.new ≡ sink.old }
     ensures too_long { result ≡ Err Status.TooLong → sink.new ≡ sink.old }
     ensures unread { result ≡ Err Status.ReadFault → sink.new ≡ sink.old }
@@ -76,7 +76,7 @@ pub fn serve_plan<R: Source, W: Sink>(
     ensures plan { IfOk result (λ p. Observed (R.tells source.new) (R.tells source.old)
         (PlaysScript (server_script (R.left source.old)) p.settings (⟦<ScriptService as Service<()>>⟧.answer p.service)
         (⟦<ScriptTarget as Notifiable>⟧.verdict p.target))) }
-    // What was written, where the sink tells too: nothing, or the line of the refusal.
+    // What was written, if the sink tells too: nothing, or the line of the refusal.
     ensures written { IfSome (serve_words (map string_bytes words.now))
         (λ w. Observed (R.tells source.new × W.tells sink.new) (R.tells source.old × W.tells sink.old)
         (WritesText (status_of result) (refusal_text (server_script (R.left source.old))) (W.taken sink.old) (W.taken sink.new))) }

@@ -11,7 +11,7 @@ use dns_flood::{Script, ScriptError, ScriptLine, read_script, write_refusal};
 use dns_io::{ReadError, Sink, Source, read_all};
 use std::alloc::Global;
 
-/// The script that a text is; where it is none, the line of its refusal is written.
+/// The script that a text is; if it is none, the line of its refusal is written.
 #[tactic(auto, using(dns_flood::proofs::Batches::nothing_written))]
 fn script_of<E: ScriptLine, W: Sink>(
     alloc: Global,

@@ -229,7 +229,7 @@ answer_is_word (Both f r) h = record {
 
 -- ---- lists of answers
 
--- those in front and those that are read behind them, as many as there are words
+-- those in front and those that are read after them, as many as there are words
 pub record AreRead {A : Type 0} (P : A → Type 0) (front : List A) (count : ℕ) (all : List A) : Type 0 where
   pub each : AllByRecursion P all
   pub many : length all ≡ length front + count

@@ -17,7 +17,7 @@ answered (Some m) answer given h =
     let fitting : nat_le (length (wire m)) 65535 ≡ true = le-leb (length (wire m)) 65535 h.3 in
     rw (h.1, h.2, fitting) refl
 
--- what an error says, where it holds anyway
+-- what an error says, if it holds anyway
 pub on_err : {T E Q : Type 0} (r : Result T E) → Q → OnErr r Q
 on_err (Ok x) q = tt
 on_err (Err e) q = q
@@ -37,7 +37,7 @@ module _ (answers : TurnAnswers) (r : Req (Unit {0})) where
   unfolding first_ready
   called_first c = refl
 
-  -- behind a call that isn't ready
+  -- after a call that isn't ready
   pub called_on : (k : ℕ) (c d start : Cached) → k < 1000 → call_text (called answers c (record { request = r; k = k })).cached (answers r k) ≡ None
       → d ≡ (called answers c (record { request = r; k = k })).behind → called_from answers r (1000 - k) k c ≡ first_ready answers r start
       → called_from answers r (1000 - (k + 1)) (k + 1) d ≡ first_ready answers r start

@@ -1,4 +1,4 @@
--- The first of all rules, where it is for all names.
+-- The first of all rules, if it is for all names.
 use Rattle.std.proofs.Common.{◌≡◌, ℕ, List, [], ◌∷◌, Option, Some, None, refl}
 use Rattle.std.specs.List.{slice_get}
 use Rattle.dns_script.specs.Rules.{answers_for}

@@ -1,4 +1,4 @@
--- A value that is kept where a line was taken.
+-- A value that is kept if a line was taken.
 use Rattle.std.specs.Prelude.{Result, Ok, Err}
 use Rattle.dns_trace.specs.Reading.{GivesLine, TakesLine}
 use Rattle.dns_trace.specs.declared.reason.LineError.{LineError}

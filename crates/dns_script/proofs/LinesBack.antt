@@ -45,7 +45,7 @@ rule_name_read w = choice (λ o. IfSome o IsReadName) (bytes_eq w (codes "*")) _
 at_least : (n : ℕ) → nat_le 3 n ≡ true → 3 ≤ n
 at_least n h = grind (arith, nat_tests)
 
--- three words and more have one behind the second
+-- three words and more have one after the second
 behind_two : (ws : List (List ℕ)) (n : ℕ) → nat_le 3 (length ws) ≡ true → n ≡ length {A = ℕ} [] + length (drop 2 ws) → 0 < n
 behind_two ws n h e = let d = length-drop 2 ws in let l = at_least (length ws) h in omega arith
 
@@ -80,7 +80,7 @@ name_or_star_word : (o : Option (List (List ℕ))) → IfSome o IsReadName → I
 name_or_star_word None h = named (codes "*") refl (omega arith)
 name_or_star_word (Some n) h = h.word
 
--- a name and words behind it are three words
+-- a name and words after it are three words
 three_words : {A : Type 0} (spelled : A → List ℕ) (answers : List A) (v w : List ℕ) → 0 < length answers → nat_le 3 (length (v ∷ w ∷ map spelled answers)) ≡ true
 three_words spelled [] v w h = absurd (omega (arith, h))
 three_words spelled (a ∷ answers) v w h = le-leb 3 (length (v ∷ w ∷ map spelled (a ∷ answers))) (omega arith)

@@ -41,7 +41,7 @@ is_dot_octet c h = grind (arith, nat_tests)
 
 -- ---- a label
 
--- a text is a label without dots and what is behind it, which a dot begins
+-- a text is a label without dots and what is after it, which a dot begins
 record Label (t l rest : List ℕ) : Type 0 where
   parts : t ≡ l ++ rest
   ends : ends_label rest ≡ true
@@ -238,7 +238,7 @@ short_label : (k : ℕ) (t : List ℕ) → IsShort k (octets_up_to k t)
 short_label zero t = at_end (ends_label t) zero t _ (none_longer (first_octet t))
 short_label (suc k) t = at_end (ends_label t) (suc k) t _ (octet_longer k (first_octet t) (short_label k))
 
--- labels that fit behind others
+-- labels that fit after others
 IsFitting : ℕ → Result (List (List ℕ)) FromTextError → Type 0
 IsFitting size (Ok ls) = FitBehind size ls
 IsFitting size (Err e) = Unit {0}

@@ -9,7 +9,7 @@ use Rattle.dns_opt.specs.Drafts.{BuiltFitting, BuiltOpt, Ends, OptDraft, PushedI
 use Rattle.dns_opt.proofs.Sizes.{opt_grows}
 use Rattle.dns_script.specs.Played.{PutsPadding, padded_draft}
 
--- where the closure was met, no list is too long
+-- if the closure was met, no list is too long
 by_result : (d : OptDraft) (old new : Built) (result : Result ⊤ BuildDataError) → Ends (Ok tt) d old new result → PutsPadding d old new result
 by_result d old new (Ok u) h = h
 by_result d old new (Err LongOptData) h = absurd h

@@ -1,4 +1,4 @@
--- What is read of words, where something is.
+-- What is read of words, if something is.
 use Rattle.std.proofs.Common.{◌≡◌, ℕ, ◌<◌, Bool, true, false, ◌&&◌, List, length, refl, ap, sym, ◌∙◌, subst, arith}
 use Rattle.std.specs.Result.{result_unwrap_or}
 use Rattle.std.specs.Prelude.{IfOk, Ok, Err, Result, nat_le, nat_lt, if◌then◌else◌}

@@ -185,7 +185,7 @@ abbrev ArePlain : List (List (List ℕ)) → Type 0
 ArePlain [] = Unit {0}
 ArePlain (ws ∷ more) = (is_service_word (word_at ws 0) ≡ false) × ArePlain more
 
--- what a first step gave, where both gave t
+-- what a first step gave, if both gave t
 first_step : (r : Result TraceSaid Reason) (f : TraceSaid → Result TraceSaid Reason) (t : TraceSaid) → (r >>= f) ≡ Ok t → (u : TraceSaid) × (r ≡ Ok u) × (f u ≡ Ok t)
 first_step (Ok u) f t h = (u, refl, h)
 first_step (Err e) f t h = cc h

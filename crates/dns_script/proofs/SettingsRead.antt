@@ -151,7 +151,7 @@ any : {A : Type 0} (r : Result A Reason) → Reads (λ a. Unit {0}) r
 any (Ok a) = given _ _ tt
 any (Err e) = refused
 
--- where nothing of a secret, of those who are denied and of configurations is said
+-- if nothing of a secret, of those who are denied and of configurations is said
 same_said : (s t : Said) → IsSaid s → t.secret ≡ s.secret → t.denied ≡ s.denied → t.dgram ≡ s.dgram → t.stream ≡ s.stream → IsSaid t
 same_said s t h a b c d = record { secret = rw a h.secret; denied = rw b h.denied; dgram = rw c h.dgram; stream = rw d h.stream }
 

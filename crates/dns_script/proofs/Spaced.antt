@@ -1,4 +1,4 @@
--- Words that are written one behind the other make a line.
+-- Words that are written one after the other make a line.
 use Rattle.std.proofs.Common.{◌≡◌, ℕ, suc, ◌+◌, ◌-◌, ◌<◌, arith, replicate, List, [], ◌∷◌, ◌++◌, ap, sym, ◌∙◌, append_assoc, append-nil}
 use Rattle.std.specs.List.{join_with_byte}
 use Rattle.dns_trace.specs.Spelling.{line_of_words, spaced}
@@ -20,7 +20,7 @@ longer_line_made old name x v ws t1 t2 t3 t4 new a b c d e =
     let all : t4 ≡ t2 ++ spaced (ws ++ v ∷ []) = d ∙ ap (λ t. t ++ (32 ∷ v)) c ∙ append_assoc t2 (spaced ws) (32 ∷ v) ∙ ap (λ t. t2 ++ t) (sym more) in
     line_made old name x (ws ++ v ∷ []) t1 t2 t4 new a b all e
 
--- a word of so many more
+-- a word of that many more
 pub one_more : (text next whole w : List ℕ) (n i : ℕ) → i < n → text ++ spaced (replicate (n - i) w) ≡ whole → next ≡ text ++ 32 ∷ w → next ++ spaced (replicate (n - (i + 1)) w) ≡ whole
 one_more text next whole w n i lt h is =
     let e : n - i ≡ suc (n - (i + 1)) = omega arith in

@@ -100,7 +100,7 @@ unfolding after_words
 after_same p l =
     words_same (is_skipped (words_of l)) (is_text l) p (plain_line p (words_of l)) (trace_line (traced_of p) (words_of l)) (next_same (setting_named (word_at (words_of l) 0)) p (words_of l))
 
--- lines behind one that was read
+-- lines after one that was read
 then_same : (n : ℕ) (r : Result (Plan Event) Reason) (f : Plan Event → Result (Plan Event) (ℕ × Reason)) (g : TraceSaid → Result TraceSaid (ℕ × Reason))
     → ((q : Plan Event) → g (traced_of q) ≡ of_read (f q)) → (numbered n (of_read r) >>= g) ≡ of_read (numbered n r >>= f)
 then_same n (Ok q) f g h = h q
@@ -170,7 +170,7 @@ service_words t false (w ∷ ws) h = rw (not_skipped w ws h) refl
 refused_line : (t : TraceSaid) (l : List ℕ) → is_service_line l ≡ true → after_line trace_line t l ≡ Err (service_reason l)
 refused_line t l h = service_words t (is_text l) (words_of l) h
 
--- where a line was read, the lines behind it decide
+-- if a line was read, the lines after it decide
 decided_behind : (n m : ℕ) (l : List ℕ) (r : Result (Plan Event) Reason) (f : Plan Event → Result (Plan Event) (ℕ × Reason)) (g : TraceSaid → Result TraceSaid (ℕ × Reason))
     → ((q : Plan Event) → whole_trace (g (traced_of q)) ≡ refused_behind m l (drafted empty_draft (f q)))
     → whole_trace (numbered n (of_read r) >>= g) ≡ refused_behind m l (drafted empty_draft (numbered n r >>= f))

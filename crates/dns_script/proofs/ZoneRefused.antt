@@ -1,4 +1,4 @@
--- Where the records of a zone make none, its line is refused.
+-- If the records of a zone make none, its line is refused.
 use Rattle.std.proofs.Common.{ap}
 use Rattle.std.specs.Prelude.{Option, Err}
 use Rattle.dns_trace.specs.Reading.{Fails}

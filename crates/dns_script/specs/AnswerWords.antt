@@ -16,7 +16,7 @@ use Rattle.dns_script.specs.declared.rule.ScriptAnswer.TheVariants.{Pend, Error,
 use Rattle.dns_script.specs.declared.rule.ScriptReply.{ScriptReply}
 use Rattle.dns_script.specs.declared.rule.ScriptReply.TheVariants.{Rcode, Blank, Fill, Opt, Live}
 
--- a reply with so many zeros: fill:L and opt:L with L at most 65,000
+-- a reply with that many zeros: fill:L and opt:L with L at most 65,000
 unfoldable pub sized_reply : List ℕ → Result ScriptReply Reason
 sized_reply w =
     if bytes_eq (take 5 w) (codes "fill:") then (number 20 65001 (drop 5 w) >>= λ n. Ok (Fill n))
@@ -55,7 +55,7 @@ abbrev pub or_read : Option ServiceError → Result ScriptAnswer Reason → Resu
 or_read (Some e) read = Ok (Error e)
 or_read None read = read
 
--- a feedback where the word is one, and else a reply
+-- a feedback if the word is one, and else a reply
 abbrev pub feedback_or : Result ServiceFeedback Reason → Result ScriptReply Reason → Result ScriptAnswer Reason
 feedback_or (Ok feedback) read = Ok (Feedback feedback)
 feedback_or (Err e) read = read >>= λ reply. Ok (Reply reply)

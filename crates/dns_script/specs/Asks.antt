@@ -14,7 +14,7 @@ use Rattle.dns_script.specs.declared.ask.Ask.{Ask}
 abbrev pub is_of_asks : List ℕ → Bool
 is_of_asks w = bytes_eq w (codes "rule")
 
--- ADDR PORT, which stand behind the moment
+-- ADDR PORT, which stand after the moment
 unfoldable pub asker_of : List (List ℕ) → Result SocketAddr Reason
 asker_of ws = do
   ip ← addr_of (word_at ws 3)

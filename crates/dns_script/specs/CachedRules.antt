@@ -42,7 +42,7 @@ turn_of_item (Some m) None = read_reply (reply_read (wire m))
 turn_of_item (Some m) (Some feedback) = Err InternalError
 turn_of_item None feedback = Err InternalError
 
--- a turn by what a rule gives at a poll; behind its last answer that is the error `servfail`
+-- a turn by what a rule gives at a poll; after its last answer that is the error `servfail`
 abbrev pub turn_by : Answer → TurnAnswer
 turn_by Pending = Pending
 turn_by (Ready None) = Ready (Err InternalError)
@@ -62,7 +62,7 @@ answer_line m = codes "answer " ++ (encode_lower (wire m) ++ codes "\n")
 abbrev pub error_line : ServiceError → List ℕ
 error_line e = codes "error " ++ (spelled_error e ++ codes "\n")
 
--- the line of a reply is that of the message which is built of it, and of the error where none can be
+-- the line of a reply is that of the message which is built of it, and of the error if none can be
 abbrev pub reply_line : Result Msg ParseError → List ℕ
 reply_line (Ok m) = if fits_frame m then answer_line m else error_line InternalError
 reply_line (Err e) = error_line FormatError
@@ -80,7 +80,7 @@ call_text None answer = turn_text answer
 
 -- ---- the calls
 
--- a line, and the cache behind its calls
+-- a line, and the cache after its calls
 pub record CacheLine : Type 0 where
   pub line : List ℕ
   pub behind : Cached
@@ -97,20 +97,20 @@ called_from answers r (suc n) k c =
     let call = called answers c (record { request = r; k = k }) in
     or_later (call_text call.cached (answers r k)) call.behind (called_from answers r n (k + 1) call.behind)
 
--- the cache behind a call of a request
+-- the cache after a call of a request
 abbrev pub call_behind : TurnAnswers → Req (Unit {0}) → ℕ → Cached → Cached
 call_behind answers r k c = (called answers c (record { request = r; k = k })).behind
 
--- the cache behind n calls of a request, of which the first has number k
+-- the cache after n calls of a request, of which the first has number k
 abbrev pub calls_behind : TurnAnswers → Req (Unit {0}) → ℕ → ℕ → Cached → Cached
 calls_behind answers r zero k c = c
 calls_behind answers r (suc n) k c = calls_behind answers r n (k + 1) (call_behind answers r k c)
 
--- a cache is as before a call of a request, or as behind it
+-- a cache is as before a call of a request, or as after it
 abbrev pub IsAtCall : TurnAnswers → Req (Unit {0}) → ℕ → Cached → Cached → Type 0
 IsAtCall answers r k c d = (d ≡ c) ⊎ (d ≡ call_behind answers r k c)
 
--- a cache is as behind the first of at most 1,000 calls of a request, none or more
+-- a cache is as after the first of at most 1,000 calls of a request, none or more
 pub record IsBehindCalls (answers : TurnAnswers) (r : Req (Unit {0})) (c d : Cached) : Type 0 where
   pub calls : ℕ
   pub few : calls ≤ 1000

@@ -16,7 +16,7 @@ use Rattle.dns_script.specs.declared.service_lines.ServiceLines.{ServiceLines}
 use Rattle.dns_script.specs.declared.service_lines.ServiceLines.TheVariants.{Rules, Upstreams, Zone}
 use Rattle.dns_script.specs.declared.upstream.UpstreamLine.{UpstreamLine}
 
--- the name of a zone, and the records behind its line
+-- the name of a zone, and the records after its line
 pub record ZoneSaid : Type 0 where
   pub apex : List (List ℕ)
   pub records : List Record
@@ -40,7 +40,7 @@ may_be_upstream d = (length d.rules == 0) && not (is_some d.zone)
 abbrev pub may_be_zone : {E : Type 0} → Draft E → Bool
 may_be_zone d = (length d.rules == 0) && (length d.upstreams == 0)
 
--- a zone with a record more, where there is one
+-- a zone with a record more, if there is one
 abbrev pub record_more : Option ZoneSaid → Record → Option ZoneSaid
 record_more None r = None
 record_more (Some z) r = Some (record z { records = z.records ++ r ∷ [] })
@@ -48,17 +48,17 @@ record_more (Some z) r = Some (record z { records = z.records ++ r ∷ [] })
 abbrev pub with_zone_record : {E : Type 0} → Draft E → Record → Draft E
 with_zone_record d r = record d { zone = record_more d.zone r }
 
--- the zone, where its records make one
+-- the zone, if its records make one
 abbrev pub made_zone : ZoneSaid → Option ZoneError → Result ServiceLines Reason
 made_zone z None = Ok (Zone (record { apex = z.apex; records = z.records }))
 made_zone z (Some e) = Err NoZone
 
--- how its line is refused, where memory may have been wanting
+-- how its line is refused, if memory may have run out
 abbrev pub zone_refused : ZoneError → LineError
 zone_refused NoMemory = OutOfMemory
 zone_refused _ = Refused NoZone
 
--- without a zone: the upstreams, where there are some, and else the rules
+-- without a zone: the upstreams, if there are some, and else the rules
 abbrev pub without_zone : List Rule → List UpstreamLine → ServiceLines
 without_zone rules [] = Rules rules
 without_zone rules (u ∷ us) = Upstreams (u ∷ us)

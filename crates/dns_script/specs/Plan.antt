@@ -24,7 +24,7 @@ empty_plan = record { said = nothing_said; service = Rules []; notify_rules = []
 abbrev pub before_events : {E : Type 0} → Plan E → Result (Unit {0}) Reason
 before_events p = unless Order (length p.events == 0)
 
--- the rules, where they are the service, and else none
+-- the rules, if they are the service, and else none
 abbrev pub rules_of : ServiceLines → List Rule
 rules_of (Rules rules) = rules
 rules_of _ = []

@@ -26,7 +26,7 @@ service_answers (Rules rules) = played rules
 service_answers (Upstreams upstreams) = turned_over (routed upstream_turn (upstreams_under upstreams))
 service_answers (Zone zone) = turned_over (zone_turn zone)
 
--- what the clients of a script are sent for its events, or its steps, where this is what clients are sent for such
+-- what the clients of a script are sent for its events, or its steps, if this is what clients are sent for such
 unfoldable pub plan_sent : {E : Type 0} → (Serving → Settings → List E → List Output) → Plan E → List Output
 plan_sent sent p = sent (wrapped_serving (settings_of p) (service_answers p.service) (script_verdicts p.notify_rules))
     (settings_of p) p.events
@@ -35,6 +35,6 @@ plan_sent sent p = sent (wrapped_serving (settings_of p) (service_answers p.serv
 abbrev pub plan_outputs : Plan Event → List Output
 plan_outputs = plan_sent out
 
--- what the clients are sent for steps, where a client hears of the server's changes only when it looks
+-- what the clients are sent for steps, if a client hears of the server's changes only when it looks
 abbrev pub plan_step_outputs : Plan Step → List Output
 plan_step_outputs = plan_sent outs

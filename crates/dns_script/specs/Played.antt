@@ -27,7 +27,7 @@ new_builder = record { message = empty; limit = 65535 }
 abbrev pub replied : Msg → Item
 replied m = Ok (record { response = Some m; feedback = None })
 
--- a reply with this response code, or the error `servfail` where the questions have no room
+-- a reply with this response code, or the error `servfail` if the questions have no room
 abbrev pub played_reply : List ℕ → ℕ → Item
 played_reply o code = if have_room new_builder o code then replied (answer_to new_builder o code).message else Err InternalError
 
@@ -35,7 +35,7 @@ played_reply o code = if have_room new_builder o code then replied (answer_to ne
 abbrev pub blank_reply : ℕ → Item
 blank_reply code = replied (record empty { header = record zero_header { rcode = code } })
 
--- what is built, where it stays within its limit, else the error `servfail`
+-- what is built, if it stays within its limit, else the error `servfail`
 abbrev pub replied_within : Built → Built → Item
 replied_within whole b = if within_limit whole then replied b.message else Err InternalError
 
@@ -50,7 +50,7 @@ answered_with o rr =
 abbrev pub private_record : ℕ → List ℕ → ResourceRecord
 private_record seconds o = record { owner = []; rtype = 65280; class = 1; ttl = seconds; rdata = o }
 
--- so many zeros, and the time to live 0
+-- that many zeros, and the time to live 0
 abbrev pub fill_record : ℕ → ResourceRecord
 fill_record n = private_record 0 (replicate n 0)
 
@@ -64,7 +64,7 @@ live_record seconds = private_record seconds []
 abbrev pub live_reply : List ℕ → ℕ → Item
 live_reply o seconds = answered_with o (live_record seconds)
 
--- an OPT record of size 0 with a padding of so many zeros
+-- an OPT record of size 0 with a padding of that many zeros
 abbrev pub padded_draft : Built → ℕ → OptDraft
 padded_draft b n = record (opened_opt b) { options = option_octets 12 (replicate n 0) }
 

@@ -8,11 +8,11 @@ use Rattle.dns_script.specs.declared.rule.ScriptAnswer.{ScriptAnswer}
 use Rattle.dns_script.specs.declared.rule.ScriptAnswer.TheVariants.{Error}
 use Rattle.dns_service.specs.declared.service.ServiceError.TheVariants.{Refused}
 
--- the name that is asked for, where the first question can be read
+-- the name that is asked for, if the first question can be read
 abbrev pub name_asked : List ℕ → Option (List (List ℕ))
 name_asked o = option_map (λ (q : Question). q.qname) (first_of (questions_of o).0)
 
--- a rule for all names fits, and one for a name where that is asked for, up to ASCII case
+-- a rule for all names fits, and one for a name if that is asked for, up to ASCII case
 abbrev pub fits_name : List (List ℕ) → Option (List (List ℕ)) → Bool
 fits_name n None = false
 fits_name n (Some asked) = same_name asked n
@@ -21,7 +21,7 @@ abbrev pub fits_asked : Option (List (List ℕ)) → Option (List (List ℕ)) �
 fits_asked None asked = true
 fits_asked (Some n) asked = fits_name n asked
 
--- the answers of the first rule that fits, and a refusal where there is none
+-- the answers of the first rule that fits, and a refusal if there is none
 abbrev pub answers_for : List Rule → Option (List (List ℕ)) → List ScriptAnswer
 answers_for [] asked = Error Refused ∷ []
 answers_for (rule ∷ rules) asked = if fits_asked rule.name asked then rule.answers else answers_for rules asked

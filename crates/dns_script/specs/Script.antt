@@ -1,8 +1,8 @@
 -- The grammar of a script, line by line: the settings and the lines of the service and of the target stand before the first event.
 -- That is a step if looks are read too. A line is refused for the first of these reasons that fits: it has an octet that is no
--- character; its first word is that of no line; it stands behind an event, and may not, or is a record before its zone; it is a
+-- character; its first word is that of no line; it stands after an event, and may not, or is a record before its zone; it is a
 -- service line of another kind than the first; it stands twice, and may not; it has too few words or too many; a word spells no
--- value. Each definition goes through them in this order. Where no line is refused, the records of a zone may still be refused, at
+-- value. Each definition goes through them in this order. If no line is refused, the records of a zone may still be refused, at
 -- the line of the zone.
 use Rattle.std.specs.Prelude.{ℕ, ◌+◌, ◌-◌, ◌==◌, nat_le, Bool, true, Option, Some, None, List, [], ◌∷◌, ◌++◌, length, take, drop, Result, Ok, Err, codes, if◌then◌else◌}
 use Rattle.std.specs.List.{list_all}
@@ -45,7 +45,7 @@ rule_of ws = do
   answers ← answers_after [] (drop 2 ws)
   Ok (record { name = name; answers = answers })
 
--- it stands before the first event, where no service line of another kind does
+-- a rule stands before the first event, if no service line of another kind does
 abbrev pub before_rule : {E : Type 0} → Draft E → Result (Unit {0}) Reason
 before_rule d = before_events d.plan >>= λ _. unless Mix (may_be_rule d)
 
@@ -90,12 +90,12 @@ of_plan d read = read >>= λ p. Ok (record d { plan = p })
 abbrev pub every_word : List ℕ → Bool
 every_word w = true
 
--- the number of the first line that is a zone's, or else of the last line, where n lines stand before these
+-- the number of the first line that is a zone's, or else of the last line, if n lines stand before these
 abbrev pub zone_number : ℕ → List (List ℕ) → ℕ
 zone_number n [] = n
 zone_number n (l ∷ ls) = if bytes_eq (word_at (words_of l) 0) (codes "zone") then n + 1 else zone_number (n + 1) ls
 
--- The lines behind the settings and those of the service and of the target are events, or steps, by their reading; and a script may
+-- The lines after the settings and those of the service and of the target are events, or steps, by their reading; and a script may
 -- lack some of those lines, by their first word.
 module _ {E : Type 0} (has : List ℕ → Bool) (reading : List (List ℕ) → Result E Reason) where
   -- the line of an event, or of a step, by the reading of those

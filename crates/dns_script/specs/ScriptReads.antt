@@ -14,7 +14,7 @@ abbrev pub RefusesScript : {A : Type 0} → ScriptError → Result A (ℕ × Rea
 RefusesScript OutOfMemory read = Unit {0}
 RefusesScript (Refused n r) read = read ≡ Err (n, r)
 
--- what a script says, or its first bad line, unless memory was wanting
+-- what a script says, or its first bad line, unless memory ran out
 abbrev pub ReadsScript : {A : Type 0} → Result A ScriptError → Result A (ℕ × Reason) → Type 0
 ReadsScript (Ok s) read = read ≡ Ok s
 ReadsScript (Err e) read = RefusesScript e read

@@ -47,7 +47,7 @@ service_text service = flat_map line_of_words (words_of_service service)
 unfoldable pub target_text : List NotifyRule → List ℕ
 target_text notify_rules = flat_map line_of_words (map words_of_notify notify_rules)
 
--- the settings, also where they are the default ones, the service, the target, and one line for each event
+-- the settings, also if they are the default ones, the service, the target, and one line for each event
 unfoldable pub script_text : Plan Event → List ℕ
 script_text p = settings_text (settings_of p) ++ (service_text p.service ++ (target_text p.notify_rules ++ flat_map event_text p.events))
 

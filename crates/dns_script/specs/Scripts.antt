@@ -1,4 +1,4 @@
--- The kinds of scripts, by what stands in them behind the settings and the lines of the service and of the target.
+-- The kinds of scripts, by what stands in them after the settings and the lines of the service and of the target.
 use Rattle.std.specs.Prelude.{ℕ, List, Result}
 use Rattle.dns_events.specs.declared.event.Event.{Event}
 use Rattle.dns_events.specs.declared.event.Step.{Step}

@@ -49,7 +49,7 @@ upstream_of ws = do
   words ← upstream_words_after [] (drop 2 ws)
   Ok (record { name = name; words = words })
 
--- it stands before the first event, where no service line of another kind does
+-- an upstream stands before the first event, if no service line of another kind does
 abbrev pub before_upstream : {E : Type 0} → Draft E → Result (Unit {0}) Reason
 before_upstream d = before_events d.plan >>= λ _. unless Mix (may_be_upstream d)
 
@@ -63,7 +63,7 @@ upstream_line d ws = do
 unfoldable pub apex_of : List (List ℕ) → Result (List (List ℕ)) Reason
 apex_of ws = unless Count (length ws == 2) >>= λ _. name_word (word_at ws 1)
 
--- it stands before the first event, where no other service line does
+-- a zone stands before the first event, if no other service line does
 abbrev pub before_zone : {E : Type 0} → Draft E → Result (Unit {0}) Reason
 before_zone d = do
   _ ← before_events d.plan
@@ -85,13 +85,13 @@ abbrev pub read_alone : Read Standing → Result Record ParseError
 read_alone (Ok s) = typed s.0
 read_alone (Err e) = Err e
 
--- a record that was read, or the refusal of what isn't one, unless memory was wanting
+-- a record that was read, or the refusal of what isn't one, unless memory ran out
 abbrev pub GivesRead : {A : Type 0} → Result A LineError → Result A ParseError → Type 0
 GivesRead (Ok x) read = read ≡ Ok x
 GivesRead (Err OutOfMemory) read = Unit {0}
 GivesRead (Err (Refused r)) read = (r ≡ Value) × IsErr read
 
--- its data is written as these octets, so that no name of it is compressed
+-- a record whose data is written as these octets, so that no name in it is compressed, or a refusal
 abbrev pub written_uncompressed : List ℕ → Result Record ParseError → Result Record Reason
 written_uncompressed octets (Ok r) = if bytes_eq (data_octets r.rdata) octets then Ok r else Err Value
 written_uncompressed octets (Err e) = Err Value
@@ -120,7 +120,7 @@ record_words ws = do
   owner ← name_word (word_at ws 1)
   record_with_owner owner ws
 
--- a record stands before the first event, and behind the line of its zone
+-- a record stands before the first event, and after the line of its zone
 abbrev pub before_record : {E : Type 0} → Draft E → Result (Unit {0}) Reason
 before_record d = before_events d.plan >>= λ _. unless Order (is_some d.zone)
 

@@ -14,7 +14,7 @@ use Rattle.dns_script.specs.declared.rule.ScriptReply.TheVariants.{Rcode, Blank,
 use Rattle.dns_script.specs.declared.upstream.UpstreamWord.{UpstreamWord}
 use Rattle.dns_script.specs.declared.upstream.UpstreamWord.TheVariants.{Pend as NoArrival, Rcode as Replies, Stray, Late}
 
--- each label with a dot behind it, as it was read; the root's name is a dot (RFC 1035, section 5.1)
+-- each label with a dot after it, as it was read; the root's name is a dot (RFC 1035, section 5.1)
 abbrev pub spelled_name : List (List ℕ) → List ℕ
 spelled_name [] = codes "."
 spelled_name (l ∷ ls) = flat_map (λ (label : List ℕ). label ++ codes ".") (l ∷ ls)

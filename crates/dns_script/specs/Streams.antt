@@ -6,11 +6,11 @@ use Rattle.dns_service.specs.declared.service.Polled.TheVariants.{Pending}
 use Rattle.dns_script.specs.declared.script_service.ScriptStream.{ScriptStream}
 use Rattle.dns_script.specs.Played.{played_from}
 
--- those of a stream that gave some already
+-- the answers that are left in a stream that gave some already
 abbrev pub left_of : ScriptStream → ℕ → Answer
 left_of s = played_from (arc_value s.message) (drop s.next s.answers)
 
--- those of a future, whose stream may have been taken
+-- the answers that are left in a future, whose stream may have been taken
 abbrev pub answers_left : Option ScriptStream → ℕ → Answer
 answers_left None k = Pending
 answers_left (Some s) k = left_of s k

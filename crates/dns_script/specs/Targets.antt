@@ -9,7 +9,7 @@ use Rattle.dns_layers.specs.declared.notifiable.NotifyError.TheVariants.{NotAuth
 use Rattle.dns_middleware.specs.Notify.{PolledVerdict}
 use Rattle.dns_script.specs.declared.notify_rule.NotifyRule.{NotifyRule}
 
--- pending so many times, and then the verdict
+-- pending that many times, and then the verdict
 abbrev pub pending_first : ℕ → Result (Unit {0}) NotifyError → ℕ → PolledVerdict
 pending_first n verdict k = if nat_lt k n then Pending else Ready verdict
 

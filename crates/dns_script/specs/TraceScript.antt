@@ -35,7 +35,7 @@ script_trace (Err e) = Err e
 abbrev pub service_reason : List ℕ → Reason
 service_reason l = if is_text l then Word else Text
 
--- the refusal of lines, or else of the line behind them, which is the first of a service
+-- the refusal of lines, or else of the line after them, which is the first of a service
 abbrev pub refused_behind : ℕ → List ℕ → Result (Draft Event) (ℕ × Reason) → Result (Settings × List Event) (ℕ × Reason)
 refused_behind n l (Ok d) = Err (n, service_reason l)
 refused_behind n l (Err e) = Err e

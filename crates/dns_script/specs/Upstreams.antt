@@ -27,18 +27,18 @@ use Rattle.dns_script.specs.declared.upstream.UpstreamWord.TheVariants.{Pend, Rc
 abbrev pub reply_under : ℕ → List ℕ → ℕ → Msg
 reply_under id o code = let m = (answer_to new_builder o code).message in record m { header = record m.header { id = id } }
 
--- that reply arrives, where it has room for the questions
+-- that reply arrives, if it has room for the questions
 abbrev pub replied_to : ℕ → List ℕ → ℕ → List AskingEvent
 replied_to id o code = if have_room new_builder o code then Arrived last_moment (wire (reply_under id o code)) ∷ [] else []
 
--- what happens for a word, where a message of these octets was sent under an identifier; a tick at the last moment is due
+-- what happens for a word, if a message of these octets was sent under an identifier; a tick at the last moment is due
 abbrev pub word_events : ℕ → List ℕ → UpstreamWord → List AskingEvent
 word_events id o Pend = []
 word_events id o (Rcode code) = replied_to id o code
 word_events id o (Stray code) = replied_to ((id + 1) % 65536) o code
 word_events id o Late = Tick last_moment ∷ []
 
--- the word of a poll; behind the last one an upstream is late
+-- the word of a poll; after the last one an upstream is late
 abbrev pub word_of_poll : List UpstreamWord → ℕ → UpstreamWord
 word_of_poll words k = unwrap_or (slice_get words k) Late
 
@@ -63,7 +63,7 @@ answered_at words o k = led_to (asked o (sent_id o) 2 1 0 (events_to (sent_id o)
 abbrev pub sent_turn : List UpstreamWord → List ℕ → ℕ → List ℕ → TurnAnswer
 sent_turn words query k o = if nat_le (length o) 65535 then relay_answer query (answered_at words o k) else Ready (Err InternalError)
 
--- a request is sent as a message where it can be read, and else InternalError
+-- a request is sent as a message if it can be read, and else InternalError
 abbrev pub request_turn : List UpstreamWord → List ℕ → ℕ → Result RequestState ParseError → TurnAnswer
 request_turn words query k (Ok m) = sent_turn words query k (wire (request_sent m))
 request_turn words query k (Err e) = Ready (Err InternalError)

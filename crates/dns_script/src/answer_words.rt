@@ -42,7 +42,7 @@ fn octets(word: &[u8]) -> Result<u16, Reason>
     Ok(number as u16)
 }
 
-/// A reply: `rcode:N`, `blank:N`, `live:T` with a time to live of 32 bits, or `fill:L` or `opt:L` with so many zeros.
+/// A reply: `rcode:N`, `blank:N`, `live:T` with a time to live of 32 bits, or `fill:L` or `opt:L` with that many zeros.
 #[tactic(auto, unfolding(crate::specs::AnswerWords::reply_word, crate::specs::AnswerWords::sized_reply))]
 fn reply(word: &[u8]) -> Result<ScriptReply, Reason>
     ensures { result ≡ reply_word word.now }
@@ -110,7 +110,7 @@ fn single(word: &[u8]) -> Result<ScriptAnswer, Reason>
     }
 }
 
-/// An answer by what stands before, between and behind its `+`.
+/// An answer by what stands before, between and after its `+`.
 #[tactic(auto, unfolding(crate::specs::AnswerWords::double_answer))]
 fn answer_in(parts: &Words) -> Result<ScriptAnswer, Reason>
     ensures { result ≡ answer_in parts.now }

@@ -19,7 +19,7 @@ use dns_service::{Polled, ReplyError, Request, ServiceError};
 use std::alloc::Global;
 use std::marker::Model;
 
-/// How often a cache is called of one question, where no call is ready.
+/// How often a cache is called of one question, if no call is ready.
 const MOST_CALLS: u64 = 1000;
 
 /// A cache in front of the rules of a script. Contracts see the rules and what is cached.
@@ -38,7 +38,7 @@ impl Model for CachedRules {
 }
 
 impl CachedRules {
-    /// An empty cache of so many replies at most, from 1 to 65,536, in front of these rules.
+    /// An empty cache of that many replies at most, from 1 to 65,536, in front of these rules.
     pub fn new(alloc: Global, rules: Rules, capacity: u32) -> Result<CachedRules, OutOfMemory>
         ensures { IfOk result (λ c. c ≡ record { rules = rules; cached = empty_cache capacity }) }
     {
@@ -48,7 +48,7 @@ impl CachedRules {
     }
 
     /// Asks a question, from call 0 on until one is ready, and gives the line: `answer HEX`, `error formerr`, `error servfail`,
-    /// `error notimp`, `error refused`, or `pending` after 1,000 calls. After want of memory the rules are as before, and the cache
+    /// `error notimp`, `error refused`, or `pending` after 1,000 calls. After memory ran out the rules are as before, and the cache
     /// is as those of the calls leave it that had memory. So the reply may be kept.
     pub fn ask(&mut self, alloc: Global, ask: Ask) -> Result<String, OutOfMemory>
         ensures line { IfOk result (λ t. string_bytes t ≡ (asked_state self.old ask).line) }
@@ -87,7 +87,7 @@ fn pending_line(alloc: Global) -> Result<String, OutOfMemory>
     Ok(String::from_str(alloc, "pending\n")?)
 }
 
-/// Call k of a request, and its line where it is ready.
+/// Call k of a request, and its line if it is ready.
 fn call(
     alloc: Global,
     turns: &ScriptTurns,
@@ -106,7 +106,7 @@ fn call(
     turn_text(alloc, turned)
 }
 
-/// The line of a call, where it is ready.
+/// The line of a call, if it is ready.
 fn turn_text(alloc: Global, turned: Turned) -> Result<Option<String>, OutOfMemory>
     ensures { IfOk result (λ t. option_map string_bytes t ≡ turn_text turned) }
 {

@@ -18,7 +18,7 @@ use dns_zone::{Zone, ZoneError};
 use std::alloc::Global;
 use std::marker::Model;
 
-/// The name of a zone, and the records behind its line.
+/// The name of a zone, and the records after its line.
 #[derive(Drop)]
 pub(crate) struct ZoneLines {
     apex: Name,
@@ -99,7 +99,7 @@ impl<E: Drop> Draft<E> {
         self.rules.as_slice().is_empty() && self.upstreams.as_slice().is_empty()
     }
 
-    /// Whether there is a zone, behind which records stand.
+    /// Whether there is a zone, after which records stand.
     pub fn has_zone(&self) -> bool
         ensures { result ≡ is_some self.now.zone }
     {
@@ -130,7 +130,7 @@ impl<E: Drop> Draft<E> {
         });
     }
 
-    /// One record of the zone more, where there is one.
+    /// One record of the zone more, if there is one.
     pub fn push_record(&mut self, resource: Record) -> Result<(), OutOfMemory>
         requires { IsLawful resource.rdata }
         ensures { OnOk result (self.new ≡ with_zone_record self.old resource) }
@@ -173,7 +173,7 @@ fn serve<E: Drop>(
     }
 }
 
-/// One record of a zone more, where there is one.
+/// One record of a zone more, if there is one.
 fn push_record(zone: &mut Option<ZoneLines>, resource: Record) -> Result<(), OutOfMemory>
     requires { IsLawful resource.rdata }
     ensures { OnOk result (zone.new ≡ record_more zone.old resource) }
@@ -204,7 +204,7 @@ fn service_of(
     }
 }
 
-/// The zone, where its records make one.
+/// The zone, if its records make one.
 fn made_zone(alloc: Global, zone: ZoneLines) -> Result<ServiceLines, LineError>
     ensures { GivesLine (λ s. s) result (made_zone zone (zone_error zone.apex zone.records)) }
 {

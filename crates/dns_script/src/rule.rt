@@ -14,11 +14,11 @@ use std::sync::Arc;
 pub enum ScriptReply {
     /// A reply with the request's questions and this response code.
     Rcode(Rcode),
-    /// A reply that is a header alone, whose bits are zero but for this response code.
+    /// A reply that is a header alone, whose bits are zero except for this response code.
     Blank(Rcode),
-    /// A reply with the request's questions and an answer of so many zeros.
+    /// A reply with the request's questions and an answer of that many zeros.
     Fill(u16),
-    /// A reply with the request's questions and an OPT record with a padding of so many zeros.
+    /// A reply with the request's questions and an OPT record with a padding of that many zeros.
     Opt(u16),
     /// A reply with the request's questions and an answer of this time to live and no data.
     Live(Ttl),
@@ -90,7 +90,7 @@ impl ScriptAnswers {
 /// A service line: for which requests it is, and what is answered at each poll.
 #[derive(Drop)]
 pub struct Rule {
-    /// The name that it is for, where it isn't for all.
+    /// The name that it is for, if it isn't for all.
     pub name: Option<Name>,
     pub answers: ScriptAnswers,
 }

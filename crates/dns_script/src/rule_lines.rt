@@ -34,7 +34,7 @@ fn rule_of(alloc: Global, words: &Words) -> Result<Rule, LineError>
     Ok(Rule { name, answers })
 }
 
-/// A line `rule NAME|* ANSWER ..`. A rule stands before the first event, where no service line of another kind does.
+/// A line `rule NAME|* ANSWER ..`. A rule stands before the first event, if no service line of another kind does.
 #[tactic(auto, unfolding(crate::specs::Script::rule_line))]
 pub(crate) fn read_rule<E: Drop>(
     alloc: Global,

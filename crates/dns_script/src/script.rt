@@ -91,7 +91,7 @@ impl<E: Drop> Script<E> {
         read_setting(alloc, &mut self.said, setting, before_events, words)
     }
 
-    /// The service, which has no rule where nothing else is said.
+    /// The service, which has no rule if nothing else is said.
     pub fn set_service(&mut self, service: ServiceLines)
         ensures { self.new ≡ record self.old { service = service } }
     {

@@ -39,7 +39,7 @@ pub fn make_answer(
     }
 }
 
-/// A reply to a message, or the error `servfail` where something has no room.
+/// A reply to a message, or the error `servfail` if something has no room.
 #[inline(always)]
 fn make_item(
     alloc: Global,
@@ -72,7 +72,7 @@ fn make_both(
     }
 }
 
-/// An answer to a message is begun; none where there is no room for the questions.
+/// An answer to a message is begun; none if there is no room for the questions.
 #[inline(always)]
 pub(crate) fn begin(
     alloc: Global,
@@ -90,7 +90,7 @@ pub(crate) fn begin(
     }
 }
 
-/// A reply with this response code, or the error `servfail` where the questions have no room.
+/// A reply with this response code, or the error `servfail` if the questions have no room.
 #[inline(always)]
 fn make_reply(alloc: Global, message: &Message, rcode: Rcode) -> Result<ServiceResult, OutOfMemory>
     ensures { IfOk result (λ i. i ≡ played_reply message.now rcode) }
@@ -112,7 +112,7 @@ fn make_blank(alloc: Global, rcode: Rcode) -> Result<ServiceResult, OutOfMemory>
     Ok(Ok(CallResult::new(reply.additional())))
 }
 
-/// A reply with an answer of this time to live and so many zeros, or the error `servfail` where
+/// A reply with an answer of this time to live and that many zeros, or the error `servfail` if
 /// something has no room.
 fn make_answered(
     alloc: Global,
@@ -128,7 +128,7 @@ fn make_answered(
     }
 }
 
-/// What is begun with an answer of this time to live and so many zeros more.
+/// What is begun with an answer of this time to live and that many zeros more.
 fn append(
     alloc: Global,
     reply: AnswerBuilder,
@@ -146,7 +146,7 @@ fn append(
     }
 }
 
-/// Appends an answer of this time to live and so many zeros, where it has room.
+/// Appends an answer of this time to live and that many zeros, if it has room.
 fn put_zeros(reply: &mut AnswerBuilder, alloc: Global, ttl: Ttl, len: u16) -> Result<(), PushError>
     ensures added { OnOk result ((reply.new ≡ with_answer reply.old (private_record ttl (replicate len 0)))
         × (within_limit (with_answer reply.old (private_record ttl (replicate len 0))) ≡ true)) }
@@ -159,7 +159,7 @@ fn put_zeros(reply: &mut AnswerBuilder, alloc: Global, ttl: Ttl, len: u16) -> Re
     }
 }
 
-/// The record of this time to live and so many zeros.
+/// The record of this time to live and that many zeros.
 fn zeros(alloc: Global, ttl: Ttl, len: u16) -> Result<Record, OutOfMemory>
     ensures value { IfOk result (λ r. record_of r ≡ private_record ttl (replicate len 0)) }
     ensures lawful { IfOk result (λ r. IsLawful r.rdata) }
@@ -175,7 +175,7 @@ fn zeros(alloc: Global, ttl: Ttl, len: u16) -> Result<Record, OutOfMemory>
     })
 }
 
-/// A reply with an OPT record of so many zeros, or the error `servfail` where something has no room.
+/// A reply with an OPT record of that many zeros, or the error `servfail` if something has no room.
 fn make_padded(alloc: Global, message: &Message, len: u16) -> Result<ServiceResult, OutOfMemory>
     ensures { IfOk result (λ i. i ≡ opt_reply message.now len) }
 {
@@ -185,7 +185,7 @@ fn make_padded(alloc: Global, message: &Message, len: u16) -> Result<ServiceResu
     }
 }
 
-/// What is begun with an OPT record of so many zeros more.
+/// What is begun with an OPT record of that many zeros more.
 fn pad(alloc: Global, reply: AdditionalBuilder, len: u16) -> Result<ServiceResult, OutOfMemory>
     ensures { IfOk result (λ i. i ≡ replied_within (with_opt_record (padded_draft reply len) reply)
         (with_opt (padded_draft reply len) reply)) }
@@ -198,7 +198,7 @@ fn pad(alloc: Global, reply: AdditionalBuilder, len: u16) -> Result<ServiceResul
     }
 }
 
-/// Appends an OPT record with so many zeros.
+/// Appends an OPT record with that many zeros.
 fn put_padding(reply: &mut AdditionalBuilder, alloc: Global, len: u16) -> Result<(), BuildDataError>
     ensures { PutsPadding (padded_draft reply.old len) reply.old reply.new result }
 {

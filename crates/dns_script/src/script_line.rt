@@ -1,4 +1,4 @@
-//! What stands in a script behind its settings and rules: events, or steps, or nothing.
+//! What stands in a script after its settings and rules: events, or steps, or nothing.
 
 ghost use Rattle.std.specs.Prelude.{◌≡◌, ℕ, Bool, List, Result};
 ghost use Rattle.dns_trace.specs.EventLines.{event_line, step_line};

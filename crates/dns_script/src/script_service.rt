@@ -55,7 +55,7 @@ impl Service<()> for ScriptService {
     }
 }
 
-/// The answers of the first rule that fits a message, and a refusal where there is none. Where the first rule of all is for all
+/// The answers of the first rule that fits a message, and a refusal if there is none. If the first rule of all is for all
 /// names, the question isn't read.
 #[tactic(auto, using(crate::proofs::FirstRules::first_for_all))]
 pub(crate) fn answers_for(
@@ -71,7 +71,7 @@ pub(crate) fn answers_for(
     }
 }
 
-/// The answers of the first rule that fits the question of a message, and a refusal where there is none.
+/// The answers of the first rule that fits the question of a message, and a refusal if there is none.
 #[inline(never)]
 fn answers_asked(
     alloc: Global,

@@ -18,7 +18,7 @@ use dns_service::{CallResult, Polled, ReplyError, Request, ServiceError, Service
 use std::alloc::Global;
 
 /// Answers each turn of a request by the answer of that number of the first rule that fits. A feedback, which a turn can't
-/// give, is the error InternalError, also beside a reply; so is a turn behind the last answer.
+/// give, is the error InternalError, also beside a reply; so is a turn after the last answer.
 #[derive(Drop)]
 pub struct ScriptTurns {
     pub(crate) rules: Rules,
@@ -59,7 +59,7 @@ impl SingleService for ScriptTurns {
     }
 }
 
-/// The answer of a number, where there are so many.
+/// The answer of a number, if there are that many.
 fn answer_at(answers: &[ScriptAnswer], k: u64) -> Option<ScriptAnswer>
     ensures { result ≡ slice_get answers.now k }
 {

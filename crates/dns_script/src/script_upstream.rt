@@ -35,7 +35,7 @@ fn under(reply: AnswerBuilder, id: u16) -> Octets
     Octets::from_vec(reply.into_message().into_octets())
 }
 
-/// The reply to a message with this response code under an identifier arrives; none where it has no room for the questions.
+/// The reply to a message with this response code under an identifier arrives; none if it has no room for the questions.
 fn push_reply(
     alloc: Global,
     events: &mut Vec<AskingEvent>,
@@ -55,7 +55,7 @@ fn push_reply(
     Ok(())
 }
 
-/// What a word says happens, where a message was sent under an identifier.
+/// What a word says happens, if a message was sent under an identifier.
 fn push_events(
     alloc: Global,
     events: &mut Vec<AskingEvent>,

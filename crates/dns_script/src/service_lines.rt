@@ -20,7 +20,7 @@ pub enum ServiceLines {
 }
 
 impl ServiceLines {
-    /// The rules, where these are the service, and else none.
+    /// The rules, if these are the service, and else none.
     pub fn into_rules(self, alloc: Global) -> Rules
         ensures { result ≡ rules_of self }
     {

@@ -19,7 +19,7 @@ use dns_trace::TextWriter;
 use dns_zone::Zone;
 use std::alloc::Global;
 
-/// The labels of a name, each with a dot behind it.
+/// The labels of a name, each with a dot after it.
 fn push_labels(text: &mut TextWriter, name: &Name) -> Result<(), OutOfMemory>
     ensures { OnOk result (text.new ≡ text.old ++ flat_map (λ label. label ++ codes ".") name.now) }
 {
@@ -31,7 +31,7 @@ fn push_labels(text: &mut TextWriter, name: &Name) -> Result<(), OutOfMemory>
     Ok(())
 }
 
-/// A name behind a space: each label with a dot behind it, or a dot for the root's.
+/// A name after a space: each label with a dot after it, or a dot for the root's.
 fn push_name(text: &mut TextWriter, name: &Name) -> Result<(), OutOfMemory>
     ensures { OnOk result (text.new ≡ text.old ++ 32 ∷ spelled_name name.now) }
 {
@@ -42,7 +42,7 @@ fn push_name(text: &mut TextWriter, name: &Name) -> Result<(), OutOfMemory>
     push_labels(text, name)
 }
 
-/// A name, or `*` for all names, behind a space.
+/// A name, or `*` for all names, after a space.
 fn push_name_or_star(text: &mut TextWriter, name: &Option<Name>) -> Result<(), OutOfMemory>
     ensures { OnOk result (text.new ≡ text.old ++ 32 ∷ name_or_star name.now) }
 {
@@ -87,7 +87,7 @@ fn push_feedback(text: &mut TextWriter, feedback: ServiceFeedback) -> Result<(),
     }
 }
 
-/// An answer behind a space.
+/// An answer after a space.
 fn push_answer(text: &mut TextWriter, answer: ScriptAnswer) -> Result<(), OutOfMemory>
     ensures { OnOk result (text.new ≡ text.old ++ 32 ∷ spelled_answer answer) }
 {
@@ -105,7 +105,7 @@ fn push_answer(text: &mut TextWriter, answer: ScriptAnswer) -> Result<(), OutOfM
     }
 }
 
-/// Answers, each behind a space.
+/// Answers, each after a space.
 fn push_answers(text: &mut TextWriter, answers: &[ScriptAnswer]) -> Result<(), OutOfMemory>
     ensures { OnOk result (text.new ≡ text.old ++ spaced (map spelled_answer answers.now)) }
 {
@@ -135,7 +135,7 @@ fn rule_lines(text: &mut TextWriter, rules: &[Rule]) -> Result<(), OutOfMemory>
     Ok(())
 }
 
-/// What happens at a poll of an upstream, behind a space.
+/// What happens at a poll of an upstream, after a space.
 fn push_event(text: &mut TextWriter, word: UpstreamWord) -> Result<(), OutOfMemory>
     ensures { OnOk result (text.new ≡ text.old ++ 32 ∷ spelled_event word) }
 {
@@ -148,7 +148,7 @@ fn push_event(text: &mut TextWriter, word: UpstreamWord) -> Result<(), OutOfMemo
     }
 }
 
-/// What happens at the polls of an upstream, each behind a space.
+/// What happens at the polls of an upstream, each after a space.
 fn push_events(text: &mut TextWriter, words: &[UpstreamWord]) -> Result<(), OutOfMemory>
     ensures { OnOk result (text.new ≡ text.old ++ spaced (map spelled_event words.now)) }
 {
@@ -178,7 +178,7 @@ fn upstream_lines(text: &mut TextWriter, upstreams: &[UpstreamLine]) -> Result<(
     Ok(())
 }
 
-/// The data of a record, or `-` for none, behind a space.
+/// The data of a record, or `-` for none, after a space.
 fn push_data(alloc: Global, text: &mut TextWriter, rdata: &RecordData) -> Result<(), OutOfMemory>
     ensures { OnOk result (text.new ≡ text.old ++ 32 ∷ octets_word (data_octets rdata.now)) }
 {
@@ -247,7 +247,7 @@ fn verdict_text(verdict: Result<(), NotifyError>) -> &'static str
     }
 }
 
-/// Writes the word `pend` so many times, each after a space.
+/// Writes the word `pend` that many times, each after a space.
 fn push_pends(text: &mut TextWriter, pends: usize) -> Result<(), OutOfMemory>
     ensures { OnOk result (text.new ≡ text.old ++ spaced (replicate pends (codes "pend"))) }
 {

@@ -16,7 +16,7 @@ pub enum UpstreamWord {
     Late,
 }
 
-/// An upstream line: behind its words an upstream is late.
+/// An upstream line: after its words an upstream is late.
 #[derive(Drop)]
 pub struct UpstreamLine {
     /// The name of the questions that it is for, and of those below.

@@ -55,7 +55,7 @@ fn upstream_of(alloc: Global, words: &Words) -> Result<UpstreamLine, LineError>
     Ok(UpstreamLine { name, words })
 }
 
-/// A line `upstream NAME WORD ..`. An upstream stands before the first event, where no service line of another kind does.
+/// A line `upstream NAME WORD ..`. An upstream stands before the first event, if no service line of another kind does.
 #[tactic(auto, unfolding(crate::specs::ServiceLines::upstream_line))]
 pub(crate) fn read_upstream<E: Drop>(
     alloc: Global,

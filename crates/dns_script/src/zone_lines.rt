@@ -17,7 +17,7 @@ use dns_name::{Name, OutOfMemory};
 use dns_trace::{LineError, Reason, Words, decimal, name, octets, port, unless};
 use std::alloc::Global;
 
-/// Octets behind others.
+/// Octets after others.
 fn push(target: &mut Vec<u8>, octets: &[u8]) -> Result<(), OutOfMemory>
     ensures { OnOk result (target.new.items ≡ target.old.items ++ octets.now) }
 {
@@ -25,7 +25,7 @@ fn push(target: &mut Vec<u8>, octets: &[u8]) -> Result<(), OutOfMemory>
     Ok(())
 }
 
-/// A number of 16 bits behind them, in network order.
+/// A number of 16 bits after them, in network order.
 fn push_number(target: &mut Vec<u8>, number: u16) -> Result<(), OutOfMemory>
     ensures { OnOk result (target.new.items ≡ target.old.items ++ two number) }
 {
@@ -90,7 +90,7 @@ fn written_as(alloc: Global, resource: &Record, rdata: &[u8]) -> Result<(), Line
     Ok(())
 }
 
-/// The record of octets, where its data has the shape of its type and no compressed name.
+/// The record of octets, if its data has the shape of its type and no compressed name.
 fn typed_record(alloc: Global, octets: &[u8], rdata: &[u8]) -> Result<Record, LineError>
     ensures value { GivesLine (λ r. r) result (written_uncompressed rdata.now (read_alone (standing_at octets.now 0))) }
     ensures lawful { IfOk result (λ r. IsLawful r.rdata) }
@@ -101,7 +101,7 @@ fn typed_record(alloc: Global, octets: &[u8], rdata: &[u8]) -> Result<Record, Li
     }
 }
 
-/// A record, where its data is written as these octets.
+/// A record, if its data is written as these octets.
 fn written_uncompressed(alloc: Global, resource: Record, rdata: &[u8]) -> Result<Record, LineError>
     requires { IsLawful resource.rdata }
     ensures value { GivesLine (λ r. r) result (written_uncompressed rdata.now (Ok resource)) }
@@ -135,7 +135,7 @@ fn record_with_owner(alloc: Global, owner: &Name, words: &Words) -> Result<Recor
     typed_record(alloc, octets.as_slice(), data.as_slice())
 }
 
-/// A line `record NAME TTL TYPE HEX`. A record stands before the first event, and behind the line of its zone.
+/// A line `record NAME TTL TYPE HEX`. A record stands before the first event, and after the line of its zone.
 #[tactic(auto, unfolding(crate::specs::ServiceLines::record_line))]
 pub(crate) fn read_record<E: Drop>(
     alloc: Global,
@@ -151,7 +151,7 @@ pub(crate) fn read_record<E: Drop>(
     Ok(())
 }
 
-/// A line `zone NAME`. A zone stands before the first event, where no other service line does.
+/// A line `zone NAME`. A zone stands before the first event, if no other service line does.
 #[tactic(auto, unfolding(crate::specs::ServiceLines::zone_line, crate::specs::ServiceLines::apex_of))]
 pub(crate) fn read_zone<E: Drop>(
     alloc: Global,

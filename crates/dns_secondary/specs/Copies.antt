@@ -22,8 +22,8 @@ timers_of (Soa mname rname serial refresh retry expire minimum)
     = Some (record { serial = serial; refresh = refresh; retry = retry; expire = expire })
 timers_of _ = None
 
--- the address of the primary; the SOA record of the copy, where there is one; when the copy came or was found current last; since when
--- and for what it is waited
+-- the address of the primary; the SOA record of the copy, if there is one; when the copy came or was found current last; since when
+-- and for what it waits
 pub record CopyState : Type 0 where
   pub primary : IpAddr
   pub held : Option SoaTimers
@@ -37,8 +37,8 @@ pub record CopyState : Type 0 where
 abbrev pub has_passed : ℕ → ℕ → ℕ → Bool
 has_passed interval since now = nat_le interval (now - since)
 
--- the next check comes behind REFRESH, and behind RETRY where one couldn't be completed; no sooner than a second, and behind a minute
--- where there is no copy
+-- the next check comes after REFRESH, and after RETRY if one couldn't be completed; no sooner than a second, and after a minute
+-- if there is no copy
 abbrev pub interval_of : Pause → Option SoaTimers → ℕ
 interval_of AtOnce held = 0
 interval_of Refresh None = 60
@@ -54,7 +54,7 @@ abbrev pub is_obsolete : Option SoaTimers → ℕ → ℕ → Bool
 is_obsolete None current now = false
 is_obsolete (Some t) current now = has_passed t.expire current now
 
--- and is discarded
+-- a copy that is obsolete is discarded
 abbrev pub without_obsolete : CopyState → ℕ → CopyState
 without_obsolete c now = if is_obsolete c.held c.current now then record c { held = None } else c
 
@@ -78,7 +78,7 @@ abbrev pub is_greater : Option Ordering → Bool
 is_greater (Some Greater) = true
 is_greater _ = false
 
--- a serial is newer than that of the copy (RFC 1982, section 3.2); any is where there is no copy
+-- a serial is newer than that of the copy (RFC 1982, section 3.2); any is if there is no copy
 abbrev pub is_newer : Option SoaTimers → Serial → Bool
 is_newer None s = true
 is_newer (Some t) s = is_greater (serial_cmp s.0 t.serial.0)

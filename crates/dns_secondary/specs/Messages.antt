@@ -12,6 +12,6 @@ zone_question t apex = record { qname = apex; qtype = t; qclass = 1 }
 abbrev pub zone_query : ℕ → ℕ → List (List ℕ) → Msg
 zone_query t id apex = record empty { header = record zero_header { id = id }; questions = zone_question t apex ∷ [] }
 
--- the NOTIFY of a zone: its opcode, AA, and the question for the SOA record (RFC 1996, sections 3.6 and 4.5)
+-- the NOTIFY of a zone: its opcode, AA, and the question for the SOA record (RFC 1996, section 3.7)
 abbrev pub zone_notify : ℕ → List (List ℕ) → Msg
 zone_notify id apex = record empty { header = record zero_header { id = id; opcode = 4; aa = true }; questions = zone_question 6 apex ∷ [] }

@@ -13,13 +13,13 @@ use std::marker::Model;
 pub enum Pause {
     /// For nothing: a check is due.
     AtOnce,
-    /// For REFRESH behind a check.
+    /// For REFRESH after a check.
     Refresh,
-    /// For RETRY behind a check that couldn't be completed.
+    /// For RETRY after a check that couldn't be completed.
     Retry,
 }
 
-/// How long is waited between checks where there is no copy, in seconds.
+/// How long it waits between checks if there is no copy, in seconds.
 const WITHOUT_COPY: u64 = 60;
 
 /// A secondary's copy of a zone: what its SOA record says, and when it is checked.
@@ -63,7 +63,7 @@ impl ZoneCopy {
         self.primary
     }
 
-    /// What the SOA record of the copy says, where there is a copy.
+    /// What the SOA record of the copy says, if there is a copy.
     pub fn held(&self) -> Option<SoaTimers>
         ensures { result ≡ self.now.held }
     {
@@ -101,7 +101,7 @@ impl ZoneCopy {
         self.pause = pause_after(self.pause);
     }
 
-    /// Takes the SOA record of the zone that the primary has: it is the copy's from now on where its serial is newer, and
+    /// Takes the SOA record of the zone that the primary has: it is the copy's from now on if its serial is newer, and
     /// else the copy is current. The result says which.
     pub fn offer(&mut self, offer: SoaTimers, now: u64) -> bool
         ensures newer { result ≡ is_newer self.old.held offer.serial }
@@ -142,7 +142,7 @@ fn has_passed(interval: u64, since: u64, now: u64) -> bool
     now.saturating_sub(since) >= interval
 }
 
-/// How long is waited, in seconds.
+/// How long it waits, in seconds.
 fn interval_of(pause: Pause, held: &Option<SoaTimers>) -> u64
     ensures { result ≡ interval_of pause held.now }
 {
@@ -160,7 +160,7 @@ fn interval_of(pause: Pause, held: &Option<SoaTimers>) -> u64
     }
 }
 
-/// For what is waited behind a check that was completed.
+/// What it waits for after a check that was completed.
 fn pause_after(pause: Pause) -> Pause
     ensures { result ≡ pause_after pause }
 {

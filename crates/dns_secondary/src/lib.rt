@@ -20,9 +20,9 @@
 //!
 //! # What is proved
 //!
-//! - A copy is replaced exactly by a zone whose serial is newer (RFC 1982, section 3.2), or where there is none.
-//! - A check is due exactly if the interval has passed for which is waited: REFRESH, or RETRY behind a check that
-//!   wasn't completed. A second is the least, and a minute is waited where there is no copy.
+//! - A copy is replaced exactly by a zone whose serial is newer (RFC 1982, section 3.2), or if there is none.
+//! - A check is due exactly if the interval has passed for which it waits: REFRESH, or RETRY after a check that
+//!   wasn't completed. A second is the least, and it waits a minute if there is no copy.
 //! - A copy is discarded exactly if EXPIRE has passed since it was current.
 //! - A NOTIFY wakes a zone exactly if it is of class IN, names it and comes from its primary's address.
 //! - A check that is asked for while another is going on isn't forgotten.

@@ -72,7 +72,7 @@ pub fn transfer_query(alloc: Global, id: u16, apex: &Name) -> Result<AdditionalB
     )
 }
 
-/// The NOTIFY of a zone (RFC 1996, section 3.6).
+/// The NOTIFY of a zone (RFC 1996, section 3.7).
 pub fn zone_notify(alloc: Global, id: u16, apex: &Name) -> Result<AdditionalBuilder, PushError>
     ensures { Builds (unlimited (zone_notify id apex.now)) result }
 {

@@ -11,9 +11,9 @@ use dns_name::Serial;
 pub struct SoaTimers {
     /// The serial of the zone.
     pub serial: Serial,
-    /// How long is waited behind a check.
+    /// How long it waits after a check.
     pub refresh: u32,
-    /// How long is waited behind a check that couldn't be completed.
+    /// How long it waits after a check that couldn't be completed.
     pub retry: u32,
     /// How long a copy is good that can't be checked.
     pub expire: u32,

@@ -7,7 +7,7 @@ use Rattle.dns_layers.specs.declared.notifiable.NotifyError.TheVariants.{NotAuth
 use Rattle.dns_secondary.specs.Copies.{wakes}
 use Rattle.dns_secondary.specs.declared.watched.WatchedZone.{WatchedZone}
 
--- taken where a zone is woken, and else NOTAUTH
+-- taken if a zone is woken, and else NOTAUTH
 abbrev pub verdict_by : Option ℕ → Result (Unit {0}) NotifyError
 verdict_by (Some index) = Ok tt
 verdict_by None = Err NotAuthForZone

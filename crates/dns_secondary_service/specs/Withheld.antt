@@ -1,4 +1,4 @@
--- Zones without data: a secondary's before its first transfer, and behind EXPIRE (RFC 1034, section 4.3.5).
+-- Zones without data: a secondary's before its first transfer, and after EXPIRE (RFC 1034, section 4.3.5).
 use Rattle.std.specs.Prelude.{ℕ, Bool, false, ◌&&◌, not, List, length, nat_eq, nat_le, if◌then◌else◌, Option, Some, None}
 use Rattle.std.specs.List.{list_any}
 use Rattle.dns_message.specs.declared.question.Question.{Question}

@@ -1,4 +1,4 @@
-//! What a secondary server answers beside its zones.
+//! What a secondary server answers besides its zones.
 //!
 //! - `Withholding` is a layer round a service. A query for a name whose nearest zone has no data is answered SERVFAIL.
 //!   All else goes to the service. `WithholdingFuture` and `WithholdingStream` are its replies.
@@ -10,7 +10,7 @@
 //! NOTIFY -> NotifyTarget: from the zone's primary: taken, and the zone is woken | NOTAUTH
 //! ```
 //!
-//! A zone has no data before its first transfer and behind EXPIRE. dns_secondary says when that is.
+//! A zone has no data before its first transfer and after EXPIRE. dns_secondary says when that is.
 //!
 //! # What is proved
 //!

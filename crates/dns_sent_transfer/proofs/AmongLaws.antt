@@ -22,7 +22,7 @@ rising_behind : (k : ℕ) (w : Option Origin) (ws : List (Option Origin)) → Is
 rising_behind k None ws h = h
 rising_behind k (Some m) ws h = rising_step (m.request == k) m.poll (polls_of k ws) h
 
--- those behind a poll are later
+-- those after a poll are later
 later : (k : ℕ) (r : SlateRequest) (n : ℕ) (w : Option Origin) (ws : List (Option Origin)) → w ≡ Some (poll_of k r n) → IsRising (polls_of k (w ∷ ws)) → All (λ (m : ℕ). n < m) (polls_of k ws)
 later k r n w ws e h =
     let f : IsRising (if k == k then n ∷ polls_of k ws else polls_of k ws) = subst (λ (x : Option Origin). IsRising (polls_of k (x ∷ ws))) e h in
@@ -64,7 +64,7 @@ module _ (answers : Serving) (k : ℕ) (r : SlateRequest) where
   same_reply : (m : Origin) (g o : List ℕ) → reply_at answers m ≡ Some g → reply_at answers m ≡ Some o → o ≡ g
   same_reply m g o e f = let i : Some o ≡ Some g = sym f ∙ e in cc
 
-  -- a message that is the reply to a poll, and others behind it
+  -- a message that is the reply to a poll, and others after it
   first_among : (m : Origin) (g : List ℕ) (gs : List (List ℕ)) (out : Output) (outs : List Output) → IsFrom answers (Some m) out → reply_at answers m ≡ Some g → AreAmong gs (octets_sent outs) → AreAmong (g ∷ gs) (octets_sent (out ∷ outs))
   first_among m g gs (Frame c o) outs from e h = inl (same_reply m g o e from, h)
   first_among m g gs (Datagram c o) outs from e h = inl (same_reply m g o e from, h)
@@ -79,7 +79,7 @@ module _ (answers : Serving) (k : ℕ) (r : SlateRequest) where
   poll_is : (n m : ℕ) (w : Option Origin) → w ≡ Some (poll_of k r n) → w ≡ Some (poll_of k r m) → n ≡ m
   poll_is n m w e f = let i : Some (poll_of k r n) ≡ Some (poll_of k r m) = sym e ∙ f in let p : poll_of k r n ≡ poll_of k r m = cc in ap (λ (x : Origin). x.poll) p
 
-  -- behind the first, where that is the reply to the first poll
+  -- after the first, if that is the reply to the first poll
   went_behind : (j : ℕ) (g : List ℕ) (gs : List (List ℕ)) (w : Option Origin) (ws : List (Option Origin)) → w ≡ Some (poll_of k r j) → Went j (g ∷ gs) (w ∷ ws) → Went (suc j) gs ws
   went_behind j g gs w ws e h = record {
     reply = λ n f i. let d : j + suc n ≡ suc j + n = omega arith in subst (λ (m : ℕ). reply_at answers (poll_of k r m) ≡ Some f) d (h.reply (suc n) f i);
@@ -92,7 +92,7 @@ module _ (answers : Serving) (k : ℕ) (r : SlateRequest) where
         ]);
   }
 
-  -- or further behind, where that isn't
+  -- or further on, if that isn't
   went_later : (j : ℕ) (g : List ℕ) (gs : List (List ℕ)) (w : Option Origin) (ws : List (Option Origin)) → IsRising (polls_of k (w ∷ ws)) → At ws (Some (poll_of k r j)) → Went j (g ∷ gs) (w ∷ ws) → Went j (g ∷ gs) ws
   went_later j g gs w ws rises here h = record {
     reply = h.reply;

@@ -1,4 +1,4 @@
--- What a client is sent of the replies to one of its requests, where all of them are in a transaction.
+-- What a client is sent of the replies to one of its requests, if all of them are in a transaction.
 use Rattle.std.specs.Prelude.{◌≡◌, ◌≤◌, ◌⊎◌, ℕ, suc, true, List, [], ◌∷◌, length, map, slice_get, Some, None}
 use Rattle.dns_base.specs.Msg.{ResourceRecord}
 use Rattle.dns_events.specs.declared.event.Event.{Event}
@@ -55,7 +55,7 @@ TransactionsLoseNothing = (answers : Serving) (settings : Settings) (c k : ℕ) 
 abbrev pub transfer_octets : ZoneState → Req (Unit {0}) → List (List ℕ)
 transfer_octets z r = map (λ (b : List ResourceRecord). on_wire r.transport (transfer_message r.octets b)) (bunched (transfer_records z))
 
--- where a request is answered by a transfer whose replies fit, all of these were sent, in order
+-- if a request is answered by a transfer whose replies fit, all of these were sent, in order
 abbrev pub TransfersAreSentWhole : Type 0
 TransfersAreSentWhole = (answers : Serving) (settings : Settings) (c k : ℕ) (es : List Event) (r : SlateRequest) (z : ZoneState)
     → IsWritten (slate answers settings c es) k r (length (bunched (transfer_records z)))

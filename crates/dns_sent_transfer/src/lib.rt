@@ -1,7 +1,7 @@
 //! What a client is sent of a zone transfer: all of its replies, in order, whatever its queue has room for.
 //!
 //! dns_transfer says that each reply of a transfer is answered within a transaction. dns_core says of which replies a
-//! client is sent, and which are dropped where a queue is full: those outside of a transaction alone. Here the two are
+//! client is sent, and which are dropped if a queue is full: those outside of a transaction alone. Here the two are
 //! one law, over the model of a server: `transfers_are_sent_whole`.
 //!
 //! ```text

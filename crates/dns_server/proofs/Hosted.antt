@@ -79,7 +79,7 @@ pub serving_so : {T E : Type 0} (made : Result T E) (answer : T → Req (Unit {0
 serving_so (Ok s) answer hint given left a h = rw (a, h) refl
 serving_so (Err e) answer hint given left a h = tt
 
--- such a service may be called where the one within may be
+-- such a service may be called if the one within may be
 pub may_call : {T E : Type 0} (made : Result T E) (inner : Type 0) (can : T → Type 0) → IfOk made (λ s. inner → can s) → inner → IfOk made (λ s. can s)
 may_call (Ok s) inner can h i = h i
 may_call (Err e) inner can h i = tt

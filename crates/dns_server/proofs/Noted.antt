@@ -52,7 +52,7 @@ abbrev read_or : Settings × List Event → Result (Settings × List Event) (ℕ
 read_or d (Ok r) = r
 read_or d (Err e) = d
 
--- where the trace of settings and events in range reads back
+-- if the trace of settings and events in range reads back
 module _ (law : (s : Settings) (es : List Event) → IsSettings s → All IsEvent es → traced (trace s es) ≡ Ok (s, es)) where
   reads : (text : List ℕ) (t : IsTrace text) → traced text ≡ Ok (t.settings, t.events)
   reads text t = ap traced t.is ∙ law t.settings t.events t.sound t.each

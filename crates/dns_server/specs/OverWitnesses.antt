@@ -22,7 +22,7 @@ ServerKept answers start now = DatagramsByTheRules answers start now ⊎ (now �
 
 module _ {D C J : Type 0} (sock_traffic : D → SockTraffic) (failed_sends : D → ℕ) (readings : C → List ClockReading)
     (noted : J → List Event) where
-  -- what the serving of a worker's datagrams tells, where its seat knows this
+  -- what the serving of a worker's datagrams tells, if its seat knows this
   abbrev pub worker_world : Worker D C J → Known → World
   worker_world w k = world (noted w.journal) (sock_traffic w.sock) (failed_sends w.sock) (readings w.clock) k
 

@@ -34,7 +34,7 @@ pub record IsTrace (text : List ℕ) : Type 0 where
 abbrev pub is_said : Event → Bool
 is_said e = not (is_wide e.kind) || (e.client == 0)
 
--- A text is the trace of settings in range and of the events that were noted behind these settings, and reads back to them.
+-- A text is the trace of settings in range and of the events that were noted after these settings, and reads back to them.
 pub record TraceReadsBack (text : List ℕ) (noted : List Event) : Type 0 where
   pub settings : Settings
   pub events : List Event

@@ -13,7 +13,7 @@ use Rattle.dns_events.specs.declared.settings.Settings.{Settings}
 use Rattle.dns_trace.specs.Trace.{trace}
 use Rattle.dns_trace.specs.Traced.{traced}
 
--- the octets of the frames that a client is sent, where these events are served
+-- the octets of the frames that a client is sent, if these events are served
 abbrev pub frames_for : Serving → Settings → ℕ → List Event → List ℕ
 frames_for answers settings client es = frame_octets (filter (is_for client) (out answers settings es))
 

@@ -81,7 +81,7 @@ fn kind(kind: &EventKind)
     }
 }
 
-/// An event is in range, where its line says all of it.
+/// An event is in range, if its line says all of it.
 #[tactic(auto, using(crate::proofs::Noted::names_none))]
 pub(crate) fn event(event: &Event)
     ensures { is_said event.now ≡ true → IsEvent event.now }

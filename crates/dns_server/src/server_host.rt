@@ -30,7 +30,7 @@ pub(crate) fn by_status(served: (BookSeat, HostEnd)) -> (BookSeat, Status)
     (seat, status_of_host(end))
 }
 
-/// Shuts the book down for want of memory.
+/// Shuts the book down because memory ran out.
 pub(crate) fn without_memory<R: Wait>(rt: &R, book: &Book, seat: BookSeat) -> (BookSeat, Status)
     requires { seat.book ≡ book.now }
     ensures shut { ShutDown seat.known result.0.known }
@@ -42,7 +42,7 @@ pub(crate) fn without_memory<R: Wait>(rt: &R, book: &Book, seat: BookSeat) -> (B
     (seat, Status::OutOfMemory)
 }
 
-/// Serves both by a service in its layers, where there was memory for them.
+/// Serves both by a service in its layers, if there was memory for them.
 fn serve_layered<
     R: Threads + Wait + Copy + Send + Sync + 'static,
     A: AsyncAccept,

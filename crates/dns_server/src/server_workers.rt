@@ -68,7 +68,7 @@ where
     by_status(host.serve(&accept_context, seat, count))
 }
 
-/// Serves by a service, which is shared where there is memory for that.
+/// Serves by a service, which is shared if there is memory for that.
 fn serve_made<
     R: Threads + Wait + Copy + Send + Sync + 'static,
     A: AsyncAccept,
@@ -106,7 +106,7 @@ where
     }
 }
 
-/// Serves by a service in its layers, where there was memory for them.
+/// Serves by a service in its layers, if there was memory for them.
 fn serve_layered<
     R: Threads + Wait + Copy + Send + Sync + 'static,
     A: AsyncAccept,
@@ -145,7 +145,7 @@ where
     }
 }
 
-/// Serves connections, and beside that datagrams by each worker of the host, as `WorkersHost::serve` does. The clock of each
+/// Serves connections, and besides that datagrams by each worker of the host, as `WorkersHost::serve` does. The clock of each
 /// connection is made of the one given here. The wrapped service is the given one in the layers of the settings, where the target is
 /// told of changed zones.
 #[tactic(auto, using(crate::proofs::Hosted::may_call))]

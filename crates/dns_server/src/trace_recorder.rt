@@ -81,7 +81,7 @@ impl Recorder for TraceRecorder {
 
     ghost noted = { λ r. recorded r.writer };
 
-    /// Notes an event, as its line behind the text.
+    /// Notes an event, as its line after the text.
     fn note(&mut self, alloc: Global, event: &Event) -> Result<(), OutOfMemory>
         ensures moves { Observed (self.new.said ≡ true) (self.old.said ≡ true)
             (NoteMoves result event.now (recorded self.old.writer) (recorded self.new.writer)) }

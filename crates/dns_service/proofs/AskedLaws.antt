@@ -39,6 +39,6 @@ none_behind : (one : ℕ → Read Standing) (before : Result ℕ ParseError) →
 none_behind one (Ok at) = refl
 none_behind one (Err e) = refl
 
--- where the header states no additional record there is no item
+-- if the header states no additional record there is no item
 pub none_stated : (o : List ℕ) → field 10 o ≡ 0 → opt_items o ≡ []
 none_stated o h = ap (λ (n : ℕ). items_reached (reached (authority_of o).1 (items_behind (standing_at o) n (authority_of o).1))) h ∙ none_behind (standing_at o) (authority_of o).1

@@ -34,7 +34,7 @@ more x (xs, Err e) = refl
 
 -- ---- questions
 
--- of so many questions from a place on, those that were copied, how many are left and where they begin
+-- of that many questions from a place on, those that were copied, how many are left and where they begin
 pub record QuestionsCopied (o : List ℕ) (count start : ℕ) (xs : List Question) (left at : ℕ) : Type 0 where
   pub within : at ≤ length o
   pub items : behind xs (whole_list (all_of (items_from (question_at o) left at))) ≡ whole_list (all_of (items_from (question_at o) count start))
@@ -88,7 +88,7 @@ record_there : (o : List ℕ) (at : ℕ) (p : Standing × ℕ) → standing_at o
 unfolding record_at
 record_there o at p f = ap (λ (r : Read Standing). plainly r) f
 
--- of so many records from a place on, those that were copied, how many are left and where they begin
+-- of that many records from a place on, those that were copied, how many are left and where they begin
 pub record RecordsCopied (o : List ℕ) (count start : ℕ) (xs : List ResourceRecord) (left at : ℕ) : Type 0 where
   pub within : at ≤ length o
   pub items : behind xs (copied_records (all_of (items_from (standing_at o) left at))) ≡ copied_records (all_of (items_from (standing_at o) count start))

@@ -67,7 +67,7 @@ asked_of o = record {
   opt = asked_opt (opt_items o);
 }
 
--- what is kept of the first item, where it is a record
+-- what is kept of the first item, if it is a record
 abbrev pub first_asked : AskedOpt → Option AskedRecord
 first_asked NoItem = None
 first_asked (One h) = Some h
@@ -80,7 +80,7 @@ asked_cookie (One h) = h.cookie
 asked_cookie (Faulty None) = NoCookie
 asked_cookie (Faulty (Some h)) = h.cookie
 
--- the greatest payload that it states, none where there is no record
+-- the greatest payload that it states, none if there is no record
 abbrev pub client_size : AskedOpt → Option ℕ
 client_size NoItem = None
 client_size (One h) = Some h.size

@@ -14,7 +14,7 @@ use Rattle.dns_base.specs.Replaced.{other_than}
 use Rattle.dns_base.specs.Sections.{all_of, questions_of, standing_answers, standing_authority, standing_additional}
 use Rattle.dns_base.specs.Standing.{Standing}
 
--- an item in front of those behind it, or the first refusal
+-- an item in front of those after it, or the first refusal
 abbrev pub in_front : {A : Type 0} → Result A ParseError → Result (List A) ParseError → Result (List A) ParseError
 in_front (Ok x) (Ok xs) = Ok (x ∷ xs)
 in_front (Ok x) (Err e) = Err e
@@ -25,7 +25,7 @@ abbrev pub whole_list : {A : Type 0} → List (Result A ParseError) → Result (
 whole_list [] = Ok []
 whole_list (item ∷ items) = in_front item (whole_list items)
 
--- a record that a section gives, copied: refused where it, or its data, is unreadable
+-- a record that a section gives, copied: refused if it, or its data, is unreadable
 abbrev pub copied_item : Result Standing ParseError → Result ResourceRecord ParseError
 copied_item (Ok s) = copied_record s
 copied_item (Err e) = Err e

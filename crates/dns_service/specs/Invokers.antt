@@ -19,7 +19,7 @@ abbrev pub reply_in : List ℕ → Item → Option Msg
 reply_in o (Ok given) = given.response
 reply_in o (Err error) = Some (error_reply o (rcode_of error))
 
--- what an item tells beside its reply
+-- what an item tells besides its reply
 abbrev pub feedback_in : Item → Option ServiceFeedback
 feedback_in (Ok given) = given.feedback
 feedback_in (Err error) = None
@@ -39,7 +39,7 @@ pub record Invoking (X : Type 0) : Type 0 where
   pub enqueued : X → Msg → X × Enqueued
 
 module _ {X : Type 0} (invoking : Invoking X) where
-  -- it hears a feedback
+  -- an invoker hears a feedback
   abbrev pub after_feedback : ServiceFeedback → X → X
   after_feedback (Reconfigure timeout) x = invoking.reconfigured x timeout
   after_feedback BeginTransaction x = invoking.with_status x InTransaction
@@ -53,12 +53,12 @@ module _ {X : Type 0} (invoking : Invoking X) where
   after_item (Ok given) x = after_some_feedback given.feedback x
   after_item (Err error) x = invoking.with_status x Aborting
 
-  -- it queues a reply
+  -- an invoker queues a reply
   abbrev pub after_reply : Option Msg → X → X
   after_reply None x = x
   after_reply (Some m) x = (invoking.enqueued x m).0
 
-  -- it hears the feedback of an item first, and then queues its reply to octets that are a message
+  -- an invoker hears the feedback of an item first, and then queues its reply to octets that are a message
   abbrev pub after_answer : List ℕ → Answer → X → X
   after_answer o Pending x = x
   after_answer o (Ready None) x = x

@@ -19,7 +19,7 @@ pub mod OptItems
 pub mod Asked
 pub mod Transport
 pub mod Req
-pub mod Told
+pub mod KeptFeedback
 pub mod Given
 pub mod Answer
 pub mod Errors

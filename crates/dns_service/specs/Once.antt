@@ -8,7 +8,7 @@ abbrev pub once : Item → ℕ → Answer
 once item zero = Ready (Some item)
 once item (suc k) = Ready None
 
--- what is answered where the item may have been given
+-- what is answered if the item may have been given
 abbrev pub once_of : Option Item → ℕ → Answer
 once_of None = λ k. Ready None
 once_of (Some item) = once item
@@ -18,7 +18,7 @@ abbrev pub items_left : Option Item → ℕ
 items_left None = 0
 items_left (Some item) = 1
 
--- what a future answers that is ready at once: as its stream, and pending where that was taken
+-- what a future answers that is ready at once: as its stream, and pending if that was taken
 abbrev pub now_of : {S : Type 0} → (S → ℕ → Answer) → Option S → ℕ → Answer
 now_of answer None = λ k. Pending
 now_of answer (Some stream) = answer stream

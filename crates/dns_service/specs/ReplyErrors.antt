@@ -1,4 +1,4 @@
--- A refused push and a refused reading as the refusal of a reply (RFC 1035, section 4.1.1): want of memory stays apart.
+-- A refused push and a refused reading as the refusal of a reply (RFC 1035, section 4.1.1): running out of memory stays apart.
 use Rattle.dns_name.specs.declared.error.ParseError.{ParseError}
 use Rattle.dns_name.specs.declared.error.ParseError.TheVariants.{ShortInput, Form, OutOfMemory as NoMemoryToParse}
 use Rattle.dns_base.specs.declared.error.PushError.{PushError}

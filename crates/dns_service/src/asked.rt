@@ -39,7 +39,7 @@ pub enum AskedOpt {
     NoItem,
     /// One record that can be read.
     One(AskedRecord),
-    /// Two or more items, or a first one that can't be read. The first record is kept, where it can be read.
+    /// Two or more items, or a first one that can't be read. The first record is kept, if it can be read.
     Faulty(Option<AskedRecord>),
 }
 
@@ -59,7 +59,7 @@ pub struct Asked {
 }
 
 impl AskedOpt {
-    /// The first cookie of the first item, where that is a record that can be read.
+    /// The first cookie of the first item, if that is a record that can be read.
     pub fn cookie(&self) -> AskedCookie
         ensures { result ≡ asked_cookie self.now }
     {
@@ -133,7 +133,7 @@ fn stated_opt(message: &Message) -> AskedOpt
     }
 }
 
-/// The first item among records, and what is behind it.
+/// The first item among records, and what is after it.
 fn first_among(records: RecordIter<'_>) -> AskedOpt
     ensures { result ≡ asked_opt (items_among records.entry) }
 {
@@ -152,7 +152,7 @@ fn first_among(records: RecordIter<'_>) -> AskedOpt
     AskedOpt::NoItem
 }
 
-/// A record, and whether there are items behind it.
+/// A record, and whether there are items after it.
 fn behind_record(first: AskedRecord, records: RecordIter<'_>) -> AskedOpt
     ensures { result ≡ behind_record first (items_among records.entry) }
 {

@@ -56,7 +56,7 @@ impl CopiedMessage {
         Self::read_on(alloc, message, questions, answers, at)
     }
 
-    /// Reads the sections behind the answers, which end at a place.
+    /// Reads the sections after the answers, which end at a place.
     fn read_on(
         alloc: Global,
         message: &MessageRef<'_>,
@@ -95,7 +95,7 @@ impl CopiedMessage {
         self.header = header;
     }
 
-    /// The message with its names uncompressed, and an OPT record as its last where one is given.
+    /// The message with its names uncompressed, and an OPT record as its last if one is given.
     pub fn build(
         &self,
         alloc: Global,
@@ -115,7 +115,7 @@ impl CopiedMessage {
     }
 }
 
-/// The questions of a message, and the place behind them.
+/// The questions of a message, and the place after them.
 fn questions_in(
     alloc: Global,
     message: &MessageRef<'_>,
@@ -179,7 +179,7 @@ fn records_from(
     Ok((records, at))
 }
 
-/// The answer records of a message, which begin at a place, and the place behind them.
+/// The answer records of a message, which begin at a place, and the place after them.
 fn answers_in(
     alloc: Global,
     message: &MessageRef<'_>,
@@ -194,7 +194,7 @@ fn answers_in(
     records_from(alloc, octets, at, number_at(octets, 6))
 }
 
-/// The authority records of a message, which begin at a place, and the place behind them.
+/// The authority records of a message, which begin at a place, and the place after them.
 fn authority_in(
     alloc: Global,
     message: &MessageRef<'_>,
@@ -209,7 +209,7 @@ fn authority_in(
     records_from(alloc, octets, at, number_at(octets, 8))
 }
 
-/// The additional records of a message, which begin at a place, and the place behind them.
+/// The additional records of a message, which begin at a place, and the place after them.
 fn additional_in(
     alloc: Global,
     message: &MessageRef<'_>,

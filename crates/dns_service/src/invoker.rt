@@ -59,7 +59,7 @@ pub trait ServiceInvoker {
         ensures does { self.new ≡ invoking.with_status self.old status }
         ensures status { invoking.status self.new ≡ status };
 
-    /// Lets the connection be idle for so many ms, where a number is given.
+    /// Lets the connection be idle for that many ms, if a number is given.
     fn reconfigure(&mut self, idle_timeout: Option<u64>)
         ensures does { self.new ≡ invoking.reconfigured self.old idle_timeout }
         ensures status { invoking.status self.new ≡ invoking.status self.old };
@@ -82,7 +82,7 @@ pub trait ServiceInvoker {
     }
 
     /// Hears the feedback of an item, and gives the reply that it has. An error item aborts the request, and its reply is an
-    /// error reply to the message. There is none exactly where the item is a feedback alone. Where there is no memory the
+    /// error reply to the message. There is none exactly if the item is a feedback alone. If there is no memory the
     /// request is as far as it was, and the item is lost.
     fn process_response_stream_item(
         &mut self,
@@ -115,7 +115,7 @@ pub trait ServiceInvoker {
         }
     }
 
-    /// Polls the replies to a message once. An item is processed, and its reply is queued. Where there is no memory nothing was
+    /// Polls the replies to a message once. An item is processed, and its reply is queued. If there is no memory nothing was
     /// heard or queued, and the stream isn't to be polled again.
     fn dispatch<T: ReplyStream>(
         &mut self,

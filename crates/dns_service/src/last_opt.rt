@@ -11,7 +11,7 @@ use dns_base::{AdditionalBuilder, PushError};
 use dns_replies::OptRecord;
 use std::alloc::Global;
 
-/// The message with an OPT record as its last, where one is given.
+/// The message with an OPT record as its last, if one is given.
 pub(crate) fn opt_built(
     message: AdditionalBuilder,
     alloc: Global,

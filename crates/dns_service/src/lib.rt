@@ -32,6 +32,7 @@ mod asked;
 mod copied;
 mod function;
 mod invoker;
+mod kept_feedback;
 mod last_opt;
 mod laws;
 mod limits;
@@ -41,7 +42,6 @@ mod polled;
 mod reply_error;
 mod service;
 mod shared_service;
-mod told;
 
 pub use asked::{Asked, AskedCookie, AskedOpt, AskedRecord, read_asked};
 pub use copied::CopiedMessage;

@@ -25,7 +25,7 @@ pub fn reply_limit(hint: Option<u16>) -> u16
     }
 }
 
-/// How many octets a reply to a request of this transport may take, where that is limited, by the hint after the call.
+/// How many octets a reply to a request of this transport may take, if that is limited, by the hint after the call.
 pub fn limit_over(transport: &TransportSpecificContext, hint: Option<u16>) -> Option<u16>
     ensures { result ≡ limit_over transport.now (limit hint) }
 {
@@ -35,7 +35,7 @@ pub fn limit_over(transport: &TransportSpecificContext, hint: Option<u16>) -> Op
     }
 }
 
-/// Cuts a reply where there is a limit, and changes nothing else of it. Where there is no memory the reply is as it was.
+/// Cuts a reply if there is a limit, and changes nothing else of it. If there is no memory the reply is as it was.
 pub fn fit(
     alloc: Global,
     limit: Option<u16>,

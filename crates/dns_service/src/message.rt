@@ -129,7 +129,7 @@ impl TransportSpecificContext {
         }
     }
 
-    /// Sets the hint, where the transport has one.
+    /// Sets the hint, if the transport has one.
     pub fn set_hint(&mut self, hint: Option<u16>)
         ensures { self.new ≡ hinted hint self.old }
     {
@@ -305,14 +305,14 @@ impl<Meta> Request<Meta> {
         self.message
     }
 
-    /// Keeps so many octets more of the response free, 65,535 at most.
+    /// Keeps that many octets more of the response free, 65,535 at most.
     pub fn reserve_bytes(&mut self, bytes: u16)
         ensures { self.new ≡ record self.old { reserved = min (self.old.reserved + bytes) 65535 } }
     {
         self.num_reserved_bytes = self.num_reserved_bytes.saturating_add(bytes);
     }
 
-    /// Keeps so many octets of the response free, however many were before: with what `num_reserved_bytes` said
+    /// Keeps that many octets of the response free, however many were before: with what `num_reserved_bytes` said
     /// earlier, it takes back what was reserved since.
     pub fn set_reserved_bytes(&mut self, bytes: u16)
         ensures { self.new ≡ record self.old { reserved = bytes } }
@@ -363,7 +363,7 @@ impl<Meta> Request<Meta> {
         })
     }
 
-    /// What the server told the service beside the request.
+    /// What the server told the service besides the request.
     pub fn metadata(&self) -> &Meta
         ensures { result.now ≡ self.now.metadata }
     {

@@ -8,8 +8,8 @@ use crate::service::{Polled, ReplyFuture, ReplyStream, ServiceResult};
 use dns_name::OutOfMemory;
 use std::alloc::Global;
 
-/// Polls a future, and where it is ready its stream in the same call: then the stream is given, with what it answered.
-/// After want of memory the future isn't to be polled again.
+/// Polls a future, and if it is ready its stream in the same call: then the stream is given, with what it answered.
+/// After memory ran out the future isn't to be polled again.
 pub fn poll_future<F: ReplyFuture<Stream = R>, R: ReplyStream>(
     alloc: Global,
     future: &mut F,

@@ -7,7 +7,7 @@ use crate::service::ServiceError;
 use dns_base::PushError;
 use dns_name::{OutOfMemory, ParseError};
 
-/// Why a reply could not be made: the service's own error, or want of memory, which no client is told of.
+/// Why a reply could not be made: the service's own error, or out of memory, which no client is told of.
 #[derive(Clone, Copy, Debug, PartialEq, Eq)]
 pub enum ReplyError {
     /// The service's own error.

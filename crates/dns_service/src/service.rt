@@ -12,8 +12,8 @@ ghost use Rattle.dns_service.specs.Given.{IsEither, message_in};
 ghost use Rattle.dns_service.specs.Lending.{LendsReply};
 ghost use Rattle.dns_service.specs.Errors.{rcode_of, service_error_text};
 
+use crate::kept_feedback::KeptFeedback;
 use crate::message::Request;
-use crate::told::Told;
 use dns_base::AdditionalBuilder;
 use dns_name::{OutOfMemory, Rcode};
 use std::alloc::Global;
@@ -73,31 +73,31 @@ impl fmt::Display for ServiceError {
 /// What a service tells the connection of its request.
 #[derive(Clone, Copy, Debug, PartialEq, Eq)]
 pub enum ServiceFeedback {
-    /// The idle timeout in ms, where there is one, holds from now on.
+    /// The idle timeout in ms, if there is one, holds from now on.
     Reconfigure { idle_timeout: Option<u64> },
     /// From now on no reply to the request is dropped.
     BeginTransaction,
-    /// From now on a reply to the request is dropped where the queue is full.
+    /// From now on a reply to the request is dropped if the queue is full.
     EndTransaction,
 }
 
 /// A reply, a feedback or both. Of a reply the message counts alone: what its builder has for a push limit is forgotten, so who
-/// pushes behind it clears the limit first (`clear_push_limit`).
+/// pushes after it clears the limit first (`clear_push_limit`).
 #[derive(Drop)]
 pub struct CallResult {
     response: Option<AdditionalBuilder>,
-    told: Told,
+    feedback: KeptFeedback,
 }
 
 impl Model for CallResult {
     ghost use Rattle.dns_service.specs.Given.{Given, IsEither, message_in};
-    ghost use Rattle.dns_service.specs.Told.{feedback_of};
+    ghost use Rattle.dns_service.specs.KeptFeedback.{feedback_of};
 
     ghost Value = { Given };
 
-    ghost view = { λ c. record { response = message_in c.response; feedback = feedback_of c.told } };
+    ghost view = { λ c. record { response = message_in c.response; feedback = feedback_of c.feedback } };
 
-    ghost invariant = { λ c. IsEither c.response (feedback_of c.told) };
+    ghost invariant = { λ c. IsEither c.response (feedback_of c.feedback) };
 }
 
 impl CallResult {
@@ -107,7 +107,7 @@ impl CallResult {
     {
         CallResult {
             response: Some(response),
-            told: Told::Nothing,
+            feedback: KeptFeedback::Nothing,
         }
     }
 
@@ -117,7 +117,7 @@ impl CallResult {
     {
         CallResult {
             response: None,
-            told: Told::some(feedback),
+            feedback: KeptFeedback::some(feedback),
         }
     }
 
@@ -127,7 +127,7 @@ impl CallResult {
     {
         CallResult {
             response: self.response,
-            told: Told::some(feedback),
+            feedback: KeptFeedback::some(feedback),
         }
     }
 
@@ -150,7 +150,7 @@ impl CallResult {
     pub fn feedback(&self) -> Option<ServiceFeedback>
         ensures { result ≡ self.now.feedback }
     {
-        self.told.feedback()
+        self.feedback.feedback()
     }
 
     /// The reply, whose push limit may be any, and the feedback.
@@ -159,8 +159,8 @@ impl CallResult {
         ensures feedback { result.1 ≡ self.feedback }
         ensures either { IsEither result.0 result.1 }
     {
-        let CallResult { response, told } = self;
-        (response, told.feedback())
+        let CallResult { response, feedback } = self;
+        (response, feedback.feedback())
     }
 }
 
@@ -191,7 +191,7 @@ pub trait ReplyStream: Drop {
     /// What `size_hint` answers.
     ghost size: { Self → ℕ × Option ℕ };
 
-    /// Takes the next answer. After want of memory the state isn't to be polled again.
+    /// Takes the next answer. After memory ran out the state isn't to be polled again.
     fn poll_next(&mut self, alloc: Global) -> Result<Polled<Option<ServiceResult>>, OutOfMemory>
         ensures now { IfOk result (λ p. p ≡ answer self.old 0) }
         ensures later { OnOk result ((k : ℕ) → answer self.new k ≡ answer self.old (suc k)) };
@@ -230,7 +230,7 @@ pub trait Service<Meta>: Drop {
     /// Whether the service may be called: one that is made of a closure needs a closure that may be.
     ghost can_call: { Self → Type 0 } = { λ _. Unit {0} };
 
-    /// Changes nothing of the request but its hint and its reserved octets, and nothing at all where it is refused.
+    /// Changes nothing of the request but its hint and its reserved octets, and nothing at all if it is refused.
     fn call(&self, alloc: Global, request: &mut Request<Meta>) -> Result<Self::Future, OutOfMemory>
         requires { can_call self.now }
         ensures answers { IfOk result (λ f. (k : ℕ) → Self.Future.answer f k ≡ answer self.now request.old k) }

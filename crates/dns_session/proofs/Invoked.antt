@@ -20,20 +20,20 @@ use Rattle.dns_session.specs.Invoker.{connection_invoking, finds_room, queued_be
 use Rattle.dns_session.specs.Turns.{reply_to}
 use Rattle.dns_framing.specs.declared.invoker.ConnectionInvoker.{ConnectionInvoker}
 
--- the frames that wait behind a reply, where there is room or not
+-- the frames that wait after a reply, if there is room or not
 abbrev pub frames_behind : Option Msg → Bool → List (List ℕ) → List (List ℕ)
 frames_behind None room frames = frames
 frames_behind (Some m) true frames = frames ++ framed (wire m) ∷ []
 frames_behind (Some m) false frames = frames
 
--- what is held behind it, in a transaction or not
+-- what is held after it, in a transaction or not
 abbrev pub held_behind : Option Msg → Bool → Bool → Option (List ℕ) → Option (List ℕ)
 held_behind None room inside held = held
 held_behind (Some m) true inside held = held
 held_behind (Some m) false true held = Some (framed (wire m))
 held_behind (Some m) false false held = held
 
--- what is spent behind it, at a moment
+-- what is spent after it, at a moment
 abbrev pub spent_behind : Option Msg → Bool → ℕ → Spending → Spending
 spent_behind None room at b = b
 spent_behind (Some m) true at b = spend at b

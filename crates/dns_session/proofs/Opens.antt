@@ -1,4 +1,4 @@
--- An open connection that stands for a slate stands for another one, where what changed fits that.
+-- An open connection that stands for a slate stands for another one, if what changed fits that.
 use Rattle.dns_session.specs.Serving.{Serving}
 use Rattle.std.proofs.Common.{◌≡◌, ℕ, ◌≤◌, length, Bool, false, ap, sym, ◌∙◌}
 use Rattle.dns_name.specs.declared.address.SocketAddr.{SocketAddr}

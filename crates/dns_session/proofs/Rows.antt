@@ -99,7 +99,7 @@ module _ {Q : Type 0} where
   pub enters : (u v : Unfinished Q) (q : Q) → v.count ≡ u.count + 1 → v.row.items ≡ u.row.items ++ q ∷ [] → v.passed ≡ u.passed → Enters u q v
   enters u v q c r p = record { count = c; entered = λ h. entered u v q c r p h }
 
-  -- what stands behind the first one of the row
+  -- what stands after the first one of the row
   behind_first : (u v : Unfinished Q) (k : ℕ) → v.row.items ≡ drop 1 u.row.items → row_start v ≡ row_start u + 1 → row_start v ≤ k → request_at v k ≡ request_at u k
   behind_first u v k r s l =
       in_row v k l ∙ (ap (λ (xs : List Q). slice_get xs (k - row_start v)) r ∙ (slice_get-drop 1 u.row.items (k - row_start v) (k - row_start u) (omega (arith, s, l)) ∙ sym (in_row u k (omega (arith, s, l)))))
@@ -227,7 +227,7 @@ module _ {Q : Type 0} where
       let some = h.1 in
       (omega (arith, b, e), in_some u m (omega (arith, e)) (omega (arith, e, some)), λ k l d. before_row u k (omega (arith, d, e)) ∙ none k l)
 
-  -- the first one that was passed by behind a number
+  -- the first one that was passed by after a number
   pub next_passed : (u : Unfinished Q) (n k : ℕ) (x : Q) (r t : List (ℕ × Q)) → IsRangeOf nat_cmp (Excluded n) Unbounded u.passed r → r ≡ (k, x) ∷ t → IsInOrder u → IsFirstFrom (n + 1) (request_at u) (Some k)
   next_passed u n k x r t range is h =
       let first = rw is at range.1 in
@@ -244,7 +244,7 @@ module _ {Q : Type 0} where
   pub none_behind : (m : BTreeMap ℕ Q) (n : ℕ) (r : List (ℕ × Q)) → IsRangeOf nat_cmp (Excluded n) Unbounded m r → r ≡ [] → (k : ℕ) → n + 1 ≤ k → get nat_cmp m k ≡ None
   none_behind m n r range is k l = range.5 is k (behind n k (omega (arith, l)), tt)
 
-  -- behind a number of the row, or past it
+  -- after a number of the row, or past it
   pub next_in_row : (u : Unfinished Q) (n : ℕ) → row_start u ≤ n → n + 1 < u.count → IsInOrder u → IsFirstFrom (n + 1) (request_at u) (Some (n + 1))
   next_in_row u n b l h =
       let r = h.row in

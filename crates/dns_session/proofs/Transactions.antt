@@ -8,7 +8,7 @@ use Rattle.dns_session.specs.Slate.{SlateRequest}
 use Rattle.dns_session.specs.Requests.{unpolled}
 use Rattle.dns_session.specs.Connections.{in_transaction}
 
--- a number of those that pass, where one that did, or didn't, does now, or doesn't
+-- a number of those that pass, if one that did, or didn't, does now, or doesn't
 abbrev pub recounted : Bool → Bool → ℕ → ℕ
 recounted true true n = n
 recounted true false n = n - 1
@@ -82,12 +82,12 @@ module _ {X : Type 0} (p : X → Bool) where
   any_step x xs true h e = ap (λ (b : Bool). not (b || list_any p xs)) h ∙ (sym (eqb-suc-zero (passing xs)) ∙ ap (λ (n : ℕ). n == 0) (sym (front x xs true h)))
   any_step x xs false h e = ap (λ (b : Bool). not (b || list_any p xs)) h ∙ (e ∙ ap (λ (n : ℕ). n == 0) (sym (front x xs false h)))
 
-  -- none passes where the number of those that do is 0
+  -- none passes if the number of those that do is 0
   pub none_passes : (xs : List X) → not (list_any p xs) ≡ (passing xs == 0)
   none_passes [] = refl
   none_passes (x ∷ xs) = any_step x xs (p x) refl (none_passes xs)
 
-  -- the count of the code is the one above, where not more pass than there are
+  -- the count of the code is the one above, if not more pass than there are
   recount_by : (was now : Bool) (count n t : ℕ)
       → n ≡ (if now && not was then min (t + 1) count else (if was && not now then t - 1 else t))
       → recounted was now t ≤ count → n ≡ recounted was now t

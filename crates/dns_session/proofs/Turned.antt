@@ -38,7 +38,7 @@ module _ {R F : Type 0} (answer : PolledRequest F R → ℕ → Answer) (answers
   pub first_answer : (q : ConnectionRequest F R) (r : SlateRequest) → IsGoing answer answers q r → answer q.polled 0 ≡ answers.answer r.request r.polls
   first_answer q r h = let e : r.polls + 0 ≡ r.polls = omega arith in h.polled 0 ∙ ap (answers.answer r.request) e
 
-  -- what is kept of it, which is nothing where it is done
+  -- what is kept of it, which is nothing if it is done
   pub kept_after : (q after : ConnectionRequest F R) (r : SlateRequest) (held : Option (List ℕ)) (status : InvokerStatus) (g : Option (ConnectionRequest F R)) (done : Bool)
       → LetGo answer done after g
       → ((k : ℕ) → answer after.polled k ≡ answer q.polled (suc k)) → after.message ≡ q.message
@@ -70,7 +70,7 @@ module _ {R F : Type 0} (answer : PolledRequest F R → ℕ → Answer) (answers
         } in
         open_on answer answers refl h.not_over idle h.timer h.kept h.within requests items capacity budget h
 
-    -- there is room at the slate where the connection has room, at the moment that it is at
+    -- there is room at the slate if the connection has room, at the moment that it is at
     pub same_room : (client : ℕ) (old : OpenConnection W R F) (s : Slate) → IsOpen answer answers client old s → finds_room old.invoker ≡ room old.invoker.at s
     same_room client old s h =
         ap (λ (xs : List (List ℕ)). nat_lt (length xs) old.invoker.queue.capacity && allows old.invoker.at old.invoker.budget) h.queue
@@ -87,7 +87,7 @@ module _ {R F : Type 0} (answer : PolledRequest F R → ℕ → Answer) (answers
     queued_open client c m s h =
         open_on answer answers refl h.not_over h.idle_timeout h.timer h.kept h.within h.requests (ap (λ (xs : List (List ℕ)). xs ++ m ∷ []) h.queue) h.bound (ap (spend c.invoker.at) h.budget) h
 
-    -- a frame is queued where there is room
+    -- a frame is queued if there is room
     pub offered_open : (client : ℕ) (c : OpenConnection W R F) (m : List ℕ) (s : Slate) → IsOpen answer answers client c s
         → IsOpen answer answers client (record c { invoker = offered c.invoker m }) (enqueue_or_drop c.invoker.at m s)
     offered_open client c m s h =

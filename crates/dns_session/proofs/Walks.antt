@@ -184,7 +184,7 @@ module _ (answers : Serving) (e : Event) where
     pub queues : (m : List ℕ) (s : Slate) → s.phase ≡ Open → room e.at s ≡ true → P s (append_frame e.at m s, [])
 
   module _ (P : Slate → Effect → Type 0) (w : Turns P) where
-    -- a request is set, and a frame of it is queued where there is room
+    -- a request is set, and a frame of it is queued if there is room
     set_case : (k : ℕ) (m : List ℕ) (r : SlateRequest) (s u : Slate) → s.phase ≡ Open → P s (u, []) → (b : Bool) → room e.at s ≡ b → P s ((if b then append_frame e.at m (with_request k r s) else u), [])
     set_case k m r s u p h true is = w.goes s (with_request k r s) (append_frame e.at m (with_request k r s), []) refl (w.sets k r s p) (w.queues m (with_request k r s) p is)
     set_case k m r s u p h false is = h

@@ -17,7 +17,7 @@ use Rattle.dns_session.specs.Slate.{Slate, SlateRequest, Effect, Open, Flushing,
 use Rattle.dns_session.specs.Requests.{header_size, most_requests, request_of_frame, unpolled}
 use Rattle.dns_session.specs.Timers.{is_expired}
 
--- it takes the configuration of now, and the queue's bound, and its timer starts
+-- a connection is opened: it takes the configuration of now and the queue's bound, and its timer starts
 abbrev pub opened : ℕ → SocketAddr → ℕ → Slate → Slate
 opened client addr at s = record s {
   client = client;
@@ -36,7 +36,7 @@ reconfigured connection s = record s { connection = connection }
 abbrev pub close : Why → Slate → Effect
 close why s = (record s { phase = Closed; received = []; taken = 0; requests = []; queue = [] }, Closed_output s.client why ∷ [])
 
--- one that is to be closed keeps its queue, where something waits in it
+-- one that is to be closed keeps its queue, if something waits in it
 abbrev pub wind_up : Why → List (List ℕ) → Slate → Effect
 wind_up why [] s = close why s
 wind_up why (m ∷ ms) s = (record s { phase = Flushing why; received = []; taken = 0; requests = [] }, [])
@@ -55,7 +55,7 @@ append_frame at m s =
     let after = spend at (spending s) in
     record s { queue = s.queue ++ m ∷ []; mark = after.mark; spent = after.spent }
 
--- a frame that no request asked for is queued where there is room, and else dropped
+-- a frame that no request asked for is queued if there is room, and else dropped
 abbrev pub enqueue_or_drop : ℕ → List ℕ → Slate → Slate
 enqueue_or_drop at m s = if room at s then append_frame at m s else s
 
@@ -66,7 +66,7 @@ take_request at secs f s =
     then record s { requests = s.requests ++ unpolled (request_of_frame s.connection.idle_timeout s.addr at secs f) ∷ [] }
     else s
 
--- a frame resets the timer; a response makes no request, and is answered with FORMERR where there is room
+-- a frame resets the timer; a response makes no request, and is answered with FORMERR if there is room
 abbrev pub take_frame : ℕ → ℕ → List ℕ → Slate → Slate
 take_frame at secs f s =
     let t = record s { taken = s.taken + 1; reset_at = at } in

@@ -33,7 +33,7 @@ exchange client addr at secs o s = record s {
   requests = (if asks_nothing o then [] else unpolled (request_of_datagram s.conf.dgram addr at secs o) ∷ []);
 }
 
--- octets that a client is sent, where it is sent some
+-- octets that a client is sent, if it is sent some
 abbrev pub datagrams_to : ℕ → Option (List ℕ) → List Output
 datagrams_to client None = []
 datagrams_to client (Some o) = Datagram client o ∷ []

@@ -140,7 +140,7 @@ module _ {R F : Type 0} (answer : PolledRequest F R → ℕ → Answer) (answers
           → (t : Slate) × IsOpen answer answers number new t
           × (take_frames at secs (frames new.framer) t ≡ take_frames at secs (frames old.framer) s)
 
-    -- a frame is taken from octets as they came, so many of them with its length; nothing is kept before them
+    -- a frame is taken from octets as they came, that many of them with its length; nothing is kept before them
     pub record TakesLent (at secs : ℕ) (old new : OpenConnection W R F) (o : List ℕ) (n : ℕ) : Type 0 where
       pub within : n ≤ length o
       pub empty : new.framer ≡ []

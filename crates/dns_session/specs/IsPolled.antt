@@ -7,7 +7,7 @@ use Rattle.dns_framing.specs.Polls.{PolledRequest}
 use Rattle.dns_session.specs.Turns.{ends, reply_to}
 use Rattle.dns_session.specs.declared.kept.KeptRequest.{KeptRequest}
 
--- the reply that the first answer is, and whether the request is done; behind it the same request, past that answer
+-- the reply that the first answer is, and whether the request is done; after it the same request, past that answer
 pub record IsPolled {F R : Type 0} (answer : PolledRequest F R → ℕ → Answer) (q : KeptRequest F R) (reply : Option Msg)
     (done : Bool) (q' : KeptRequest F R) : Type 0 where
   pub says : reply ≡ reply_to q.limit (arc_value q.message) (answer q.polled 0)

@@ -1,5 +1,5 @@
--- What a look at the book tells a client that looked before: the configurations, where their version is new, and then the
--- shutdown, where that is new.
+-- What a look at the book tells a client that looked before: the configurations, if their version is new, and then the
+-- shutdown, if that is new.
 use Rattle.std.specs.Prelude.{ℕ, ◌==◌, List, [], ◌∷◌, ◌++◌, Bool, not, ◌&&◌, if◌then◌else◌}
 use Rattle.dns_events.specs.declared.look.Look.{Look}
 use Rattle.dns_events.specs.declared.event.Event.{Event}

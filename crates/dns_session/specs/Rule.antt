@@ -1,5 +1,5 @@
 -- What a client's events do to its slate, in which an Offer stands for one that is admitted. The answers are those of the
--- wrapped service, by request and poll. Where the client's state doesn't say otherwise, an event changes nothing.
+-- wrapped service, by request and poll. If the client's state doesn't say otherwise, an event changes nothing.
 use Rattle.dns_session.specs.Serving.{Serving}
 use Rattle.std.specs.Prelude.{[], slice_get, if◌then◌else◌}
 use Rattle.dns_events.specs.declared.event.Event.{Event}

@@ -57,7 +57,7 @@ abbrev pub sole : {Q : Type 0} → Option Q → ℕ → Option Q
 sole kept zero = kept
 sole kept (suc k) = None
 
--- of an exchange's request, where it is kept, the number
+-- of an exchange's request, if it is kept, the number
 abbrev pub sole_number : {Q : Type 0} → Option Q → Option ℕ
 sole_number None = None
 sole_number (Some q) = Some 0

@@ -27,7 +27,7 @@ module _ {F R : Type 0} (answer : PolledRequest F R → ℕ → Answer) where
     pub budget : i'.budget ≡ (invoker_after q i).budget
     pub ended : done ≡ ends (answer q.polled 0)
 
-  -- a frame that was held is queued, where there is room, and nothing is polled
+  -- a frame that was held is queued, if there is room, and nothing is polled
   pub record IsHeldOn (m : List ℕ) (q : ConnectionRequest F R) (i : ConnectionInvoker) (done : Bool) (q' : ConnectionRequest F R)
       (i' : ConnectionInvoker) : Type 0 where
     pub request : q' ≡ (if finds_room i then record q { held = None } else q)

@@ -24,7 +24,7 @@ ends (Ready None) = true
 ends (Ready (Some (Ok given))) = false
 ends (Ready (Some (Err error))) = true
 
--- the message of a reply to octets that are a message, of at most n octets where that is limited; an error item is answered by
+-- the message of a reply to octets that are a message, of at most n octets if that is limited; an error item is answered by
 -- an error reply
 abbrev pub reply_to : Option ℕ → List ℕ → Answer → Option Msg
 reply_to n o Pending = None
@@ -48,28 +48,28 @@ sent_at_once client (Some m) = Datagram client (wire m) ∷ []
 abbrev pub answered : Answer → SlateRequest → SlateRequest
 answered a r = record r { polls = r.polls + 1; status = answer_status a r.status; done = ends a }
 
--- and for how long the connection may be idle
+-- a connection after a poll: an answer tells how long it may be idle
 abbrev pub retimed : Answer → Slate → Slate
 retimed a s = record s { connection = record s.connection { idle_timeout = answer_timeout a s.connection.idle_timeout } }
 
--- a frame of a request is queued where there is room; else it is held, in a transaction, and dropped outside of one
+-- a frame of a request is queued if there is room; else it is held, in a transaction, and dropped outside of one
 abbrev pub hold : List ℕ → SlateRequest → SlateRequest
 hold m r = if is_in_transaction r.status then record r { held = Some m } else r
 
 abbrev pub enqueue : ℕ → ℕ → List ℕ → SlateRequest → Slate → Slate
 enqueue at k m r s = if room at s then append_frame at m (with_request k r s) else with_request k (hold m r) s
 
--- a reply stands behind its length
+-- a reply stands after its length
 abbrev pub queue_reply : ℕ → ℕ → Option Msg → SlateRequest → Slate → Slate
 queue_reply at k None r s = with_request k r s
 queue_reply at k (Some m) r s = enqueue at k (framed (wire m)) r s
 
--- a frame that was held is queued where there is room now, and else it is held on
+-- a frame that was held is queued if there is room now, and else it is held on
 abbrev pub queue_held : ℕ → ℕ → List ℕ → SlateRequest → Slate → Slate
 queue_held at k m r s = if room at s then append_frame at m (with_request k (record r { held = None }) s) else s
 
 module _ (answers : Serving) where
-  -- how many octets a reply to a request may take, where that is limited
+  -- how many octets a reply to a request may take, if that is limited
   abbrev pub limit_for : Req (Unit {0}) → Option ℕ
   limit_for r = limit_over r.transport (limit (answers.hint r))
 

@@ -4,7 +4,7 @@ use Rattle.std.specs.Ordering.{nat_cmp}
 use Rattle.std.specs.BTreeMap.{get}
 use Rattle.dns_session.specs.declared.unfinished.Unfinished.{Unfinished}
 
--- from number n on, the first number under which something is kept, where there is one
+-- from number n on, the first number under which something is kept, if there is one
 abbrev pub IsFirstFrom : {Q : Type 0} → ℕ → (ℕ → Option Q) → Option ℕ → Type 0
 IsFirstFrom n kept None = (k : ℕ) → n ≤ k → kept k ≡ None
 IsFirstFrom n kept (Some m) = (n ≤ m) × IsSome (kept m) × ((k : ℕ) → n ≤ k → k < m → kept k ≡ None)

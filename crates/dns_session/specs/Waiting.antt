@@ -11,11 +11,11 @@ first_unfinished_from n (r ∷ rs) = if r.done then first_unfinished_from (n + 1
 abbrev pub first_unfinished : List SlateRequest → Option ℕ
 first_unfinished rs = first_unfinished_from 0 rs
 
--- and of those behind number k
+-- the number of the first request after number k that isn't done
 abbrev pub next_unfinished : ℕ → List SlateRequest → Option ℕ
 next_unfinished k rs = first_unfinished_from (k + 1) (drop (k + 1) rs)
 
--- for how long from a moment on a connection may still be idle (RFC 7766, section 6.2.3); not at all where it isn't open
+-- for how long from a moment on a connection may still be idle (RFC 7766, section 6.2.3); not at all if it isn't open
 abbrev pub idle_left_in : Phase → ℕ → ℕ → ℕ → ℕ
 idle_left_in Open reset_at timeout at = deadline reset_at timeout at - at
 idle_left_in _ reset_at timeout at = 0

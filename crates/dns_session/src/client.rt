@@ -54,7 +54,7 @@ pub struct ClientCore<W: SharedService> {
     version: u64,
 }
 
-/// The number of an exchange's request, where that is kept.
+/// The number of an exchange's request, if that is kept.
 fn sole_number<F, R>(unfinished: &Option<KeptRequest<F, R>>) -> Option<u64>
     ensures { result ≡ sole_number unfinished.now }
 {
@@ -142,7 +142,7 @@ impl<W: SharedService> ClientCore<W> {
         })
     }
 
-    /// One event of the client. Where it finds no memory, nothing is kept any more, and every later call gives nothing.
+    /// One event of the client. If it finds no memory, nothing is kept any more, and every later call gives nothing.
     pub fn step(
         &mut self,
         alloc: Global,
@@ -156,7 +156,7 @@ impl<W: SharedService> ClientCore<W> {
             (rule (serving (W.answer service.now) (W.hint service.now)) event.now)) }
         ensures client { self.new.client ≡ self.old.client }
         ensures version { self.new.version ≡ self.old.version }
-        // Want of memory, and what comes after it.
+        // Running out of memory, and what comes after it.
         ensures loses { OnErr result (IsLost self.new) }
         ensures lost { IsLost self.old → IsOkAnd result (λ outs. outs.items ≡ []) × IsLost self.new }
     {
@@ -187,7 +187,7 @@ impl<W: SharedService> ClientCore<W> {
             (rule (serving (W.answer service.now) (W.hint service.now)) e)) }
         ensures client { self.new.client ≡ self.old.client }
         ensures version { self.new.version ≡ self.old.version }
-        // Want of memory, and what comes after it.
+        // Running out of memory, and what comes after it.
         ensures loses { OnErr result (IsLost self.new) }
         ensures lost { IsLost self.old → IsOkAnd result (λ sent. sent ≡ Sent.Nothing) × IsLost self.new }
     {
@@ -200,7 +200,7 @@ impl<W: SharedService> ClientCore<W> {
         }
     }
 
-    /// The frame that is written next was written at a moment in ms, which took so many ms. It does as `step` by a Write, makes
+    /// The frame that is written next was written at a moment in ms, which took that many ms. It does as `step` by a Write, makes
     /// neither an event nor a list, and takes no memory.
     pub fn write(&mut self, at: u64, took: u64) -> Sent
         // By each such event, at each slate that the core stands for, it sends what the rule says.
@@ -214,7 +214,7 @@ impl<W: SharedService> ClientCore<W> {
         write_state(&mut self.state, at, took)
     }
 
-    /// An open connection hears configurations, where their version is new.
+    /// An open connection hears configurations, if their version is new.
     fn apply_config(&mut self, look: &Look)
         ensures follows { (answers : Serving)
             → GoesAs (request_answer W.Future.answer W.Stream.answer) answers self.old self.new []
@@ -232,7 +232,7 @@ impl<W: SharedService> ClientCore<W> {
         }
     }
 
-    /// A look at the book: the client hears of what is new to it, the configurations and then the shutdown. Where it finds no
+    /// A look at the book: the client hears of what is new to it, the configurations and then the shutdown. If it finds no
     /// memory, nothing is kept any more, and every later call gives nothing.
     pub fn saw(&mut self, alloc: Global, look: &Look) -> Result<Vec<Output>, OutOfMemory>
         // At each slate that the core stands for, the look's news do what the rules say.
@@ -241,7 +241,7 @@ impl<W: SharedService> ClientCore<W> {
             (look_effect answers self.old.version look.now)) }
         ensures client { self.new.client ≡ self.old.client }
         ensures version { self.new.version ≡ look.now.version }
-        // Want of memory, and what comes after it.
+        // Running out of memory, and what comes after it.
         ensures loses { OnErr result (IsLost self.new) }
         ensures lost { IsLost self.old → IsOkAnd result (λ outs. outs.items ≡ []) × IsLost self.new }
     {
@@ -308,7 +308,7 @@ impl<W: SharedService> ClientCore<W> {
         }
     }
 
-    /// The frame that is written next, where one waits.
+    /// The frame that is written next, if one waits.
     pub fn front_frame(&self) -> Option<&[u8]>
         ensures value { option_map (λ m. m.now) result ≡ slice_get (waiting self.now.state) 0 }
         ensures queue { (answers : Serving) (s : Slate)
@@ -323,7 +323,7 @@ impl<W: SharedService> ClientCore<W> {
         }
     }
 
-    /// How long the frame that is written next may take in ms, where one waits.
+    /// How long the frame that is written next may take in ms, if one waits.
     pub fn write_timeout(&self) -> u64
         ensures value { result ≡ write_limit self.now.state }
         ensures timeout { (answers : Serving) (s : Slate)
@@ -349,7 +349,7 @@ impl<W: SharedService> ClientCore<W> {
         }
     }
 
-    /// The number of the first request that isn't done, where there is one.
+    /// The number of the first request that isn't done, if there is one.
     pub fn first_unfinished(&self) -> Option<u64>
         ensures requests { (answers : Serving) (s : Slate)
             → Stands (request_answer W.Future.answer W.Stream.answer) answers self.now s → result ≡ first_unfinished s.requests }
@@ -362,7 +362,7 @@ impl<W: SharedService> ClientCore<W> {
         }
     }
 
-    /// The number of the first request behind the one of a number that isn't done, where there is one.
+    /// The number of the first request after the one of a number that isn't done, if there is one.
     #[tactic(auto, using(crate::proofs::Waiting::exchange_behind))]
     pub fn next_unfinished(&self, request: u64) -> Option<u64>
         ensures requests { (answers : Serving) (s : Slate)

@@ -120,7 +120,7 @@ impl<W: SharedService> OpenConnection<W> {
         self.unfinished.enter(kept)
     }
 
-    /// Answers a response, of which no request is made, where there is room. Where there is none, it takes no memory.
+    /// Answers a response, of which no request is made, if there is room. If there is none, it takes no memory.
     fn refuse(&mut self, alloc: Global, at: u64, message: &Message) -> Result<(), OutOfMemory>
         ensures ok { OnOk result (self.new ≡ refusing at self.old message.now) }
         ensures err { OnErr result (finds_room (record self.old.invoker { at = at }) ≡ true) }
@@ -138,7 +138,7 @@ impl<W: SharedService> OpenConnection<W> {
         }
     }
 
-    /// A turn of a request at a moment: a reply that is held is queued where there is room, or else the request is polled once.
+    /// A turn of a request at a moment: a reply that is held is queued if there is room, or else the request is polled once.
     fn turn(&mut self, alloc: Global, at: u64, request: u64) -> Result<Outcome, OutOfMemory>
         ensures { IfOk result (λ outcome. (answers : Serving)
             → Leads (request_answer W.Future.answer W.Stream.answer) answers self.old self.new outcome
@@ -170,7 +170,7 @@ impl<W: SharedService> OpenConnection<W> {
         }
     }
 
-    /// Takes the first frame that is kept. The outcome is given where no more is to be taken.
+    /// Takes the first frame that is kept. The outcome is given if no more is to be taken.
     fn take_one(
         &mut self,
         alloc: Global,
@@ -318,7 +318,7 @@ impl<W: SharedService> OpenConnection<W> {
         Outcome::WindsUp(why)
     }
 
-    /// What is kept where it only writes what waits.
+    /// What is kept if it only writes what waits.
     pub fn into_flushing(self, why: Why) -> FlushingConnection
         ensures { result ≡ flushing_for why self }
     {
@@ -360,7 +360,7 @@ impl<W: SharedService> OpenConnection<W> {
         self.unfinished.first()
     }
 
-    /// The number of the first request behind the one of a number that isn't done.
+    /// The number of the first request after the one of a number that isn't done.
     pub fn next_unfinished(&self, request: u64) -> Option<u64>
         ensures { (answers : Serving) (client : ℕ) (s : Slate)
             → IsOpen (request_answer W.Future.answer W.Stream.answer) answers client self.now s

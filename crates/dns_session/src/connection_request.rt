@@ -80,7 +80,7 @@ where
         self.held = invoker.held.take();
     }
 
-    /// Queues the reply that is held, where there is room now. Nothing is polled.
+    /// Queues the reply that is held, if there is room now. Nothing is polled.
     fn try_held(&mut self, held: Octets, invoker: &mut ConnectionInvoker) -> bool
         requires { self.old.held ≡ None }
         ensures { IsHeldOn (request_answer F.answer R.answer) held
@@ -101,7 +101,7 @@ where
         }
     }
 
-    /// Whether the request was in a transaction before its turn, and is in one behind it; and whether it is done.
+    /// Whether the request was in a transaction before its turn, and is in one after it; and whether it is done.
     fn turn_counted(
         &mut self,
         alloc: Global,
@@ -128,7 +128,7 @@ fn ends(dispatched: Dispatched) -> bool
     }
 }
 
-/// A turn of the request of this number, where it is kept. It is let go where it is done. Whether it was in a transaction, and
+/// A turn of the request of this number, if it is kept. It is let go if it is done. Whether it was in a transaction, and
 /// whether it is now, is given.
 pub fn turn_at<F: ReplyFuture<Stream = R>, R: ReplyStream>(
     alloc: Global,
@@ -173,7 +173,7 @@ fn turn_in_row<F: ReplyFuture<Stream = R>, R: ReplyStream>(
     Ok(counts)
 }
 
-/// A turn of the request of this number, where it was passed by and isn't done.
+/// A turn of the request of this number, if it was passed by and isn't done.
 fn turn_passed<F: ReplyFuture<Stream = R>, R: ReplyStream>(
     alloc: Global,
     passed: &mut BTreeMap<u64, ConnectionRequest<F, R>>,
@@ -208,7 +208,7 @@ fn let_go<F: Drop, R: Drop>(
     counts
 }
 
-/// How many requests of so many are in a transaction after a turn of one, which was in one before, or is in one now.
+/// How many requests of that many are in a transaction after a turn of one, which was in one before, or is in one now.
 pub fn recount(count: u64, transactions: u64, was: bool, now: bool) -> u64
     ensures { result ≡ (if now && not was then min (transactions + 1) count
         else (if was && not now then transactions - 1 else transactions)) }

@@ -29,7 +29,7 @@ pub fn one(alloc: Global, output: Output) -> Result<Vec<Output>, OutOfMemory>
     Ok(outs)
 }
 
-/// What a client is sent, where it is sent a datagram.
+/// What a client is sent, if it is sent a datagram.
 pub fn datagrams_to(
     alloc: Global,
     client: u64,
@@ -69,7 +69,7 @@ pub fn begin_exchange<W: SharedService>(
     begin_exchange_in(alloc, service, addr, at, secs, octets, config, &mut None)
 }
 
-/// Begins an exchange as `begin_exchange` does. Its message takes the place of the one that is given, where nothing else has a
+/// Begins an exchange as `begin_exchange` does. Its message takes the place of the one that is given, if nothing else has a
 /// share in that; then no memory is taken for it.
 pub fn begin_exchange_in<W: SharedService>(
     alloc: Global,

@@ -24,7 +24,7 @@ use dns_name::{Octets, OptRcode, OutOfMemory};
 use std::alloc::Global;
 use std::sync::Arc;
 
-/// A request that isn't done: its polled state, its message, and how many octets a reply may take, where that is limited.
+/// A request that isn't done: its polled state, its message, and how many octets a reply may take, if that is limited.
 #[derive(Drop)]
 pub struct KeptRequest<F, R> {
     polled: PolledRequest<F, R>,
@@ -95,7 +95,7 @@ where
     F: ReplyFuture<Stream = R>,
     R: ReplyStream,
 {
-    /// Takes the next answer: the reply that is sent for it, where there is one, and whether the request is done.
+    /// Takes the next answer: the reply that is sent for it, if there is one, and whether the request is done.
     pub fn poll(&mut self, alloc: Global) -> Result<(Option<AdditionalBuilder>, bool), OutOfMemory>
         ensures { IfOk result (λ p. IsPolled (request_answer F.answer R.answer) self.old (message_in p.0) p.1 self.new) }
     {
@@ -106,7 +106,7 @@ where
         }
     }
 
-    /// A Turn of the one request of an exchange: the octets that its client is sent, where there are some, and whether the request
+    /// A Turn of the one request of an exchange: the octets that its client is sent, if there are some, and whether the request
     /// is done.
     pub fn turn(&mut self, alloc: Global) -> Result<(Option<Octets>, bool), OutOfMemory>
         ensures follows { IfOk result (λ p. (answers : Serving)
@@ -119,7 +119,7 @@ where
     }
 }
 
-/// A reply as a datagram, where there is one.
+/// A reply as a datagram, if there is one.
 fn datagram_in(reply: Option<AdditionalBuilder>) -> Option<Octets>
     ensures { result ≡ option_map wire (message_in reply) }
 {
@@ -129,7 +129,7 @@ fn datagram_in(reply: Option<AdditionalBuilder>) -> Option<Octets>
     }
 }
 
-/// The reply that is sent for an item, where there is one, and whether its request is done.
+/// The reply that is sent for an item, if there is one, and whether its request is done.
 #[inline(always)]
 pub fn answered(
     alloc: Global,
@@ -150,7 +150,7 @@ pub fn answered(
     }
 }
 
-/// The error reply to a message, of so many octets at most where that is limited.
+/// The error reply to a message, of that many octets at most if that is limited.
 pub fn refused(
     alloc: Global,
     message: &Message,

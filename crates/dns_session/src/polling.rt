@@ -10,7 +10,7 @@ use dns_framing::{ReplyFuture, ReplyStream};
 use dns_name::{Octets, OutOfMemory};
 use std::alloc::Global;
 
-/// A Turn of a request, where one is kept, which is let go where it is done. The octets that its client is sent are given.
+/// A Turn of a request, if one is kept, which is let go if it is done. The octets that its client is sent are given.
 pub fn turn_unfinished<F: ReplyFuture<Stream = R>, R: ReplyStream>(
     alloc: Global,
     unfinished: &mut Option<KeptRequest<F, R>>,

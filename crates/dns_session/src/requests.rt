@@ -78,7 +78,7 @@ fn put_in(shared: &mut Arc<Message>, message: Message) -> Option<Message>
     }
 }
 
-/// A message that is shared from now on, in the place of the one that is given where nothing else has a share in that.
+/// A message that is shared from now on, in the place of the one that is given if nothing else has a share in that.
 #[inline(always)]
 pub fn shared_in(
     alloc: Global,

@@ -10,7 +10,7 @@ pub enum Sent {
     Nothing,
     /// A frame.
     Frame(Octets),
-    /// The last frame, behind which the connection is closed.
+    /// The last frame, after which the connection is closed.
     Last(Octets, Why),
     /// The connection is closed.
     Closed(Why),

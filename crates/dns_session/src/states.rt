@@ -22,7 +22,7 @@ use dns_name::{Octets, OutOfMemory};
 use std::alloc::Global;
 use std::mem::replace;
 
-/// The state of a connection that only writes what waits from now on, where it is open.
+/// The state of a connection that only writes what waits from now on, if it is open.
 fn wound_up<W: SharedService>(state: State<W>, why: Why) -> State<W>
     ensures { result ≡ wound_up why state }
 {
@@ -64,7 +64,7 @@ fn step_closed(freed: &mut bool, event: &Event)
     }
 }
 
-/// A last frame, and why the connection is closed behind it.
+/// A last frame, and why the connection is closed after it.
 fn last(alloc: Global, client: u64, octets: Octets, why: Why) -> Result<Vec<Output>, OutOfMemory>
     ensures { IfOk result (λ outs. outs.items ≡ Output.Frame client octets ∷ Output.Closed client why ∷ []) }
 {

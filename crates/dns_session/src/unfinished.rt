@@ -8,7 +8,7 @@ use std::collections::{BTreeMap, VecDeque};
 use std::ops::Bound;
 
 /// What is kept of the requests of a connection that aren't done: how many requests were made; a row of those of the last numbers,
-/// without a gap; and, of those before the row, the ones that were passed by, since one behind them was done before them.
+/// without a gap; and, of those before the row, the ones that were passed by, since one after them was done before them.
 #[derive(Drop)]
 pub struct Unfinished<Q> {
     pub(crate) count: u64,
@@ -66,7 +66,7 @@ impl<Q> Unfinished<Q> {
         }
     }
 
-    /// The number of the first request behind the one of a number that is before the row.
+    /// The number of the first request after the one of a number that is before the row.
     fn next_passed(&self, request: u64) -> Option<u64>
         requires { request < row_start self.now }
         ensures { IsInOrder self.now → IsFirstFrom (request + 1) (request_at self.now) result }
@@ -81,7 +81,7 @@ impl<Q> Unfinished<Q> {
         }
     }
 
-    /// The number of the first request behind the one of a number.
+    /// The number of the first request after the one of a number.
     pub fn next(&self, request: u64) -> Option<u64>
         ensures { IsInOrder self.now → IsFirstFrom (request + 1) (request_at self.now) result }
     {

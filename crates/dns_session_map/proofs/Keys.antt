@@ -81,7 +81,7 @@ module _ {X : Type 0} (g : ℕ → List X) where
   none_silent [] silent = refl
   none_silent (m ∷ ms) silent = rw (silent m (first_there m ms) refl) (none_silent ms (λ c there gone. silent c (more_there c m ms there) gone))
 
-  -- where those of the one are of the other, and nothing is told of the rest, the same is told
+  -- if those of the one are of the other, and nothing is told of the rest, the same is told
   pub flat_among : (ms ks : List ℕ) → IsStrictlySortedBy nat_cmp ks → IsStrictlySortedBy nat_cmp ms → Among ks ms → Silent ks ms → flat_map g ks ≡ flat_map g ms
   flat_among ms [] so so' among silent = none_silent ms silent
   flat_among [] (k ∷ ks) so so' among silent = let no = among k (first_there k ks) in cc

@@ -270,7 +270,7 @@ pub fn turn_away(
     Ok(outs)
 }
 
-/// Outputs go behind others, which stay as they are where memory is wanting.
+/// Outputs go after others, which stay as they are if memory runs out.
 pub fn append(outs: &mut Vec<Output>, more: Vec<Output>) -> Result<(), OutOfMemory>
     ensures ok { OnOk result (outs.new.items ≡ outs.old.items ++ more.items) }
     ensures kept { OnErr result (outs.new.items ≡ outs.old.items) }

@@ -41,7 +41,7 @@ not_behind true h = absurd (true≢false (sym h))
 not_behind false h = refl
 
 module _ (ns : List NsecState) (sorted : AreSorted ns) (name : List (List ℕ)) where
-  -- the last NSEC that is not behind a name is the last of those that are not
+  -- the last NSEC that is not after a name is the last of those that are not
   pub last_is : (n : NsecState) (more : List NsecState) → filter (is_up_to name) ns ≡ n ∷ more → IsLast ns name (last_or n more)
   last_is n more e =
       let l = last_or n more in
@@ -69,7 +69,7 @@ module _ (ns : List NsecState) (sorted : AreSorted ns) (name : List (List ℕ)) 
               let e : last_or n more ≡ m = sym (last_place n more m) ∙ (ap (λ (i : ℕ). get_or (n ∷ more) i m) (sym same) ∙ q) in
               subst (λ (x : NsecState). is_before (last_or n more).owner x.owner ≡ false) e (same_upto (last_or n more).owner (last_or n more).owner (same_itself (last_or n more).owner))
 
-  -- there is one where not all are behind the name
+  -- there is one if not all are after the name
   record Near : Type 0 where
     one : NsecState
     last : IsLast ns name one
@@ -136,7 +136,7 @@ module _ (z : ZoneState) (ns chosen_ : List NsecState) (w : IsWhole z ns) (sorte
           (and_from (denies_name z.apex name n.one) (same_name (shown_wildcard n.one name) (wildcard z name)) (name_denied z ns w name n.one n.last answered x)
           (ap (λ (v : List (List ℕ)). same_name v (wildcard z name)) (wildcard_shown z ns w name n.one n.last cut x) ∙ same_itself (wildcard z name)))
 
-    -- what is said where no records are given
+    -- what is said if no records are given
     abbrev absent : Bool
     absent = if exists z name then proves_no_data z.apex chosen_ name t else (if exists z (wildcard z name) then proves_wildcard_no_data z.apex chosen_ name t else proves_name_error z.apex chosen_ name)
 

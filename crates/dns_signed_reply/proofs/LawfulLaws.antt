@@ -1,4 +1,4 @@
--- The data of all records of a reply can be written, where that of the zone's can.
+-- The data of all records of a reply can be written, if that of the zone's can.
 use Rattle.std.proofs.Common.{ℕ, zero, suc, Bool, true, false, List, [], ◌∷◌, ◌++◌, map, cond, Option, Some, None, refl}
 use Rattle.std.specs.Prelude.{if◌then◌else◌, ◌&&◌, not, nat_eq}
 use Rattle.std.specs.List.{filter, list_any}

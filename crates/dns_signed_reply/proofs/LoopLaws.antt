@@ -23,7 +23,7 @@ one_more {A} {B} f j xs i d old now new h e g =
     ∙ (append_assoc old (f (take i xs)) (f (get_or xs i d ∷ []))
     ∙ ap (λ (l : List B). old ++ l) (sym (ap f (take_more xs i d h) ∙ j (take i xs) (get_or xs i d ∷ [])))))
 
--- where the element was read
+-- if the element was read
 pub one_item : {A B : Type 0} (f : List A → List B) → ((xs ys : List A) → f (xs ++ ys) ≡ f xs ++ f ys) → (xs : List A) (i : ℕ) (x : A) (old now new : List B) → i < length xs → x ≡ get_or xs i x → now ≡ old ++ f (take i xs) → new ≡ now ++ f (x ∷ []) → new ≡ old ++ f (take (i + 1) xs)
 one_item {A} {B} f j xs i x old now new h q e g = one_more f j xs i x old now new h e (g ∙ ap (λ (y : A). now ++ f (y ∷ [])) q)
 
@@ -51,7 +51,7 @@ written_joined xs ys = map-append record_of xs ys
 
 -- ---- one record that is added, or none
 
--- what is added where a list is one element
+-- what is added if a list is one element
 pub put_one : {A : Type 0} (xs : List A) (x copy : A) (old new : List A) → xs ≡ x ∷ [] → copy ≡ x → new ≡ old ++ copy ∷ [] → new ≡ old ++ xs
 put_one {A} xs x copy old new e f g = g ∙ (ap (λ (y : A). old ++ y ∷ []) f ∙ ap (λ (l : List A). old ++ l) (sym e))
 

@@ -41,7 +41,7 @@ use Rattle.dns_signed_reply.proofs.AcceptLaws.{last_is}
 use Rattle.dns_signed_reply.proofs.GivenLaws.{sole}
 use Rattle.dns_signed_reply.proofs.MemberLaws.{from_filter, in_filter}
 
--- ---- the last NSEC that is not behind a name
+-- ---- the last NSEC that is not after a name
 
 module _ (ns : List NsecState) (sorted : AreSorted ns) (name : List (List ℕ)) where
   pub near_none : AllBehind ns name → nearest ns name ≡ []
@@ -212,7 +212,7 @@ module _ (z : ZoneState) where
   asked_dname t (l ∷ ls) ds h = dname_down (not (nat_eq t 43)) l ls ds (region z ls) refl (dname_region ls ds) h
 
   module _ (ns : List NsecState) (w : IsWhole z ns) (t : ℕ) (name : List (List ℕ)) (rs : List Record) (e : asked_region z t name ≡ BelowCut rs) where
-    -- where DS is asked for, a cut lies within
+    -- if DS is asked for, a cut lies within
     within : asked_region z 43 (servers_owner rs) ≡ Within
     within = by_region (asked_region z 43 (servers_owner rs)) refl
       where

@@ -30,11 +30,11 @@ module _ (z : ZoneState) (name : List (List ℕ)) where
   by_exists : ℕ → Bool → List Record
   by_exists t b = if b then asked_records z name t else map (given_as name) (asked_records z (wildcard z name) t)
 
-  -- where it exists, its own
+  -- if it exists, its own
   pub own_had : (t : ℕ) → exists z name ≡ true → had_records z name t ≡ asked_records z name t
   own_had t e = ap (λ (b : Bool). if b then asked_records z name t else map (given_as name) (asked_records z (wildcard z name) t)) e
 
-  -- and where it doesn't, those of its wildcard
+  -- and if it doesn't, those of its wildcard
   pub wild_had : (t : ℕ) → exists z name ≡ false → had_records z name t ≡ map (given_as name) (asked_records z (wildcard z name) t)
   wild_had t e = ap (λ (b : Bool). if b then asked_records z name t else map (given_as name) (asked_records z (wildcard z name) t)) e
 

@@ -26,7 +26,7 @@ false_true : (b : Bool) → b ≡ false → b ≡ true → ⊥
 false_true true h k = cc
 false_true false h k = cc
 
--- what was built stays in its room exactly where the message does
+-- what was built stays in its room exactly if the message does
 stays : (room : ℕ) (m : Msg) (b : Built) → b ≡ unlimited m → nat_le (length (wire b.message)) room ≡ has_room room m
 stays room m b e = ap (λ (x : Built). nat_le (length (wire x.message)) room) e
 

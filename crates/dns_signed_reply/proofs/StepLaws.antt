@@ -54,7 +54,7 @@ own_is_denied z rs b e h = sym (ap (λ (x : Bool). if x then authoritative rs el
 pub own_is_given : (z : ZoneState) (rs : List Record) (b : Bool) → b ≡ (length rs == 0) → b ≡ false → authoritative rs ≡ own_reply z rs
 own_is_given z rs b e h = sym (ap (λ (x : Bool). if x then authoritative rs else denied z 0) (sym (some_is rs b e) ∙ ap not h))
 
--- an answer behind aliases is authoritative
+-- an answer after aliases is authoritative
 pub aa_none : (rs : List Record) (b aa : Bool) → b ≡ (length rs == 0) → b ≡ true → aa ≡ (are_some rs || aa)
 aa_none rs b aa e h = ap (λ (x : Bool). x || aa) (ap not (sym h) ∙ some_is rs b e)
 
@@ -100,7 +100,7 @@ given_nowhere old new copy c go o r e f g h =
     (λ i. behind ((e ∙ ap (λ (x : Record). old ++ x ∷ []) f) i) (h i))
     ∙ (behind_more old c (authoritative []) ∙ ap (λ (x : Option (List (List ℕ))). behind old (behind_alias c (gone_to go x))) g)
 
--- a record that is given, and what is behind it
+-- a record that is given, and what is after it
 pub given_then : (old mid new : List Record) (copy c : Record) (r s : ZoneReply) → mid ≡ old ++ copy ∷ [] → copy ≡ c → behind new s ≡ behind mid r → behind new s ≡ behind old (behind_alias c r)
 given_then old mid new copy c r s e f h =
     h ∙ (ap (λ (l : List Record). behind l r) (e ∙ ap (λ (x : Record). old ++ x ∷ []) f) ∙ behind_more old c r)
@@ -151,7 +151,7 @@ module _ (z : ZoneState) (t : ℕ) (name : List (List ℕ)) (n : ℕ) (h : Reach
 
 -- ---- chains
 
--- the reply for a name that is asked for, where so many more may be
+-- the reply for a name that is asked for, if that many more may be
 abbrev pub asked_reply : ZoneState → ℕ → ℕ → List (List (List ℕ)) → List (List ℕ) → ZoneReply
 asked_reply z t left seen name = by_region z (reply_from z t left (seen ++ name ∷ [])) t name (asked_region z t name)
 

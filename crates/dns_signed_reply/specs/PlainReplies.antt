@@ -69,7 +69,7 @@ nsecs_inside s t names = flat_map (nearest s.nsecs)
 
 -- ---- room
 
--- whether what was built is no longer than so many octets; what memory lacks for isn't
+-- whether what was built is no longer than that many octets; what memory lacks for isn't
 abbrev pub keeps_room : ℕ → Result Built PushError → Bool
 keeps_room room (Ok b) = nat_le (length (wire b.message)) room
 keeps_room room (Err ShortBuf) = false

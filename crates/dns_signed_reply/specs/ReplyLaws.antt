@@ -18,7 +18,7 @@ use Rattle.dns_nsec_data.specs.NsecData.{IsChainOf, IsNsec}
 use Rattle.dns_signed_zone.specs.SignedZones.{SignedState}
 use Rattle.dns_signed_reply.specs.SignedReplies.{asked_names, asks_do, chosen, denials, proved_authority, rrsigs_of, secure_reply}
 
--- Signing adds and never changes: each section is that of the reply without DO, and behind it RRSIG, NSEC and DS records alone.
+-- Signing adds and never changes: each section is that of the reply without DO, and after it RRSIG, NSEC and DS records alone.
 abbrev pub SigningAddsOnly : Type 0
 SigningAddsOnly = (s : SignedState) (room : ℕ) (o : List ℕ) (q : Question) → AddsOnly (name_server_reply s.zone q) (secure_reply s room o q)
 
@@ -27,7 +27,7 @@ abbrev pub NothingWithoutDo : Type 0
 NothingWithoutDo = (s : SignedState) (room : ℕ) (o : List ℕ) (q : Question) → asks_do o ≡ false
     → secure_reply s room o q ≡ name_server_reply s.zone q
 
--- the RRSIGs of a record's RRset are among records, where one of some records says which; unless these have them
+-- the RRSIGs of a record's RRset are among records, if one of some records says which; unless these have them
 pub record HasSignatures (z : ZoneState) (unsigned signed : List Record) (r : Record) : Type 0 where
   pub one : Record
   pub there : Contains unsigned one

@@ -31,14 +31,14 @@ led_by (Some name) = name ∷ []
 abbrev pub led_to : Record → List (List (List ℕ))
 led_to r = if is_of 5 r then led_by (target r.rdata) else []
 
--- that of the question, and of the targets of the aliases among answers, where they are followed, those in the zone
+-- that of the question, and of the targets of the aliases among answers, if they are followed, those in the zone
 abbrev pub asked_names : ZoneState → Question → List Record → List (List (List ℕ))
 asked_names z q answers = q.qname ∷ (if follows q.qtype
     then filter (λ (name : List (List ℕ)). ends_name name z.apex) (flat_map led_to answers) else [])
 
 -- ---- the names whose NSEC records are given
 
--- Of a name that exists: itself, where it has no records of the type (RFC 4035, section 3.1.3.1). Of one that doesn't: itself, and where no
+-- Of a name that exists: itself, if it has no records of the type (RFC 4035, section 3.1.3.1). Of one that doesn't: itself, and if no
 -- wildcard's records are given for it the wildcard as well (sections 3.1.3.2 to 3.1.3.4).
 abbrev pub denied_within : ZoneState → ℕ → List (List ℕ) → List (List (List ℕ))
 denied_within z t name =
@@ -46,7 +46,7 @@ denied_within z t name =
     else (if is_given z t name then name ∷ []
     else name ∷ wildcard z name ∷ [])
 
--- of a referral the delegation point, where it has no DS (section 3.1.4); a DNAME record denies nothing
+-- of a referral the delegation point, if it has no DS (section 3.1.4); a DNAME record denies nothing
 abbrev pub denied_by : ZoneState → ℕ → List (List ℕ) → Region → List (List (List ℕ))
 denied_by z t name Within = denied_within z t name
 denied_by z t name (BelowCut servers) = if are_some (asked_records z (servers_owner servers) 43) then [] else servers_owner servers ∷ []
@@ -83,7 +83,7 @@ abbrev pub last_of : List NsecState → List NsecState
 last_of [] = []
 last_of (n ∷ ns) = last_or n ns ∷ []
 
--- the NSEC that matches a name or covers it: of those in canonical order the last that is not behind the name
+-- the NSEC that matches a name or covers it: of those in canonical order the last that is not after the name
 abbrev pub nearest : List NsecState → List (List ℕ) → List NsecState
 nearest ns name = last_of (filter (is_up_to name) ns)
 
@@ -95,7 +95,7 @@ chosen s q answers = flat_map (nearest s.nsecs) (denied_names s.zone q answers)
 abbrev pub others : List Record → List Record → List Record
 others given rs = filter (λ (r : Record). not (list_any (is_beside r) given)) rs
 
--- the NSEC records of NSECs, each once (section 3.1.3.2), behind some
+-- the NSEC records of NSECs, each once (section 3.1.3.2), after some
 abbrev pub nsec_records_of : ZoneState → List Record → List NsecState → List Record
 nsec_records_of z given [] = given
 nsec_records_of z given (n ∷ ns) = nsec_records_of z (given ++ others given (owned_records z n.owner 47)) ns
@@ -121,12 +121,12 @@ abbrev pub rrsigs_of : ZoneState → List Record → Record → List Record
 rrsigs_of z rs r = if have_signatures rs r.owner then []
     else map (timed r) (filter (is_signature (data_type r.rdata)) (reached_records z r.owner (had_records z r.owner 46)))
 
--- those of records behind some, once for each RRset
+-- the RRSIGs of records that come after some, once for each RRset
 abbrev pub rrsigs : ZoneState → List Record → List Record → List Record → List Record
 rrsigs z all seen [] = []
 rrsigs z all seen (r ∷ rs) = (if list_any (is_beside r) seen then [] else rrsigs_of z all r) ++ rrsigs z all (r ∷ seen) rs
 
--- records, and behind them their RRSIGs
+-- records, and after them their RRSIGs
 abbrev pub with_rrsigs : ZoneState → List Record → List Record
 with_rrsigs z rs = rs ++ rrsigs z rs [] rs
 
@@ -149,7 +149,7 @@ do_reply s q r = record r {
   additional = with_rrsigs s.zone r.additional;
 }
 
--- where the message would pass a size with the RRSIGs of additional records, it goes without them (section 3.1.1)
+-- if the message would pass a size with the RRSIGs of additional records, it goes without them (section 3.1.1)
 
 abbrev pub has_room : ℕ → Msg → Bool
 has_room room m = nat_le (length (wire m)) room
@@ -165,6 +165,6 @@ has_do (Some s) = is_do s.head.flags
 abbrev pub asks_do : List ℕ → Bool
 asks_do o = has_do (opt_of o)
 
--- the reply to a query's octets, where so many octets are room for additional signatures
+-- the reply to a query's octets, if that many octets are room for additional signatures
 abbrev pub secure_reply : SignedState → ℕ → List ℕ → Question → ZoneReply
 secure_reply s room o q = let r = name_server_reply s.zone q in if asks_do o then as_room room o r.additional (do_reply s q r) else r

@@ -140,7 +140,7 @@ fn deny_both(
     }
 }
 
-/// Adds the NSEC records for a name that exists, where a type is asked for.
+/// Adds the NSEC records for a name that exists, if a type is asked for.
 fn deny_type(
     zone: &SignedZone,
     alloc: Global,
@@ -159,7 +159,7 @@ fn deny_type(
     deny(zone, alloc, name, into)
 }
 
-/// Adds the NSEC records for a name that doesn't exist, where a type is asked for.
+/// Adds the NSEC records for a name that doesn't exist, if a type is asked for.
 fn deny_missing(
     zone: &SignedZone,
     alloc: Global,
@@ -219,7 +219,7 @@ fn deny_ds(
     }
 }
 
-/// Adds the NSEC records that prove what the reply says of a name, where a type is asked for.
+/// Adds the NSEC records that prove what the reply says of a name, if a type is asked for.
 fn deny_name(
     zone: &SignedZone,
     alloc: Global,

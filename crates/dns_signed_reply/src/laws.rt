@@ -2,7 +2,7 @@
 
 ghost use Rattle.dns_signed_reply.specs.ReplyLaws.{ChosenAreGiven, NothingWithoutDo, RepliesAreAccepted, SecurityBitsAreClear, SigningAddsAll, SigningAddsOnly};
 
-/// A reply with DO is the reply without, and behind each section RRSIG, NSEC and DS records alone.
+/// A reply with DO is the reply without, and after each section RRSIG, NSEC and DS records alone.
 #[tactic(auto, using(crate::proofs::AddLaws::signing_adds_only))]
 pub fn signing_adds_only()
     ensures { SigningAddsOnly }

@@ -5,7 +5,7 @@
 //!
 //! With DO each RRset of the answer and authority sections goes with its RRSIGs. What the reply says is absent goes with the NSEC
 //! records that prove it, each once. A referral has the DS records of the delegation point, or the NSEC record that says there are
-//! none. RRSIGs of the additional section are given where the message stays within a size that the caller says.
+//! none. RRSIGs of the additional section are given if the message stays within a size that the caller says.
 //!
 //! ```text
 //! reply without DO  answer            authority                          additional
@@ -17,7 +17,7 @@
 //! # What is proved
 //!
 //! - What is built is the message of `secure_reply`, section for section.
-//! - Each section is that of the reply without DO, and behind it RRSIG, NSEC and DS records alone (`signing_adds_only`).
+//! - Each section is that of the reply without DO, and after it RRSIG, NSEC and DS records alone (`signing_adds_only`).
 //!   Without DO nothing is added (`nothing_without_do`).
 //! - Each RRset of the answer and authority sections has its RRSIGs (`signing_adds_all`).
 //! - A validator accepts what the reply says of each name that it is asked for, the names of a chain of aliases too
@@ -28,7 +28,8 @@
 //! # What a body could still get away with
 //!
 //! How often the zone is walked and how often records are copied. By reading the code, with DO it is walked once for each name
-//! of a chain of aliases and once more for its denial, and once for each RRset and each NSEC record that is given.
+//! of a chain of aliases and once more for its denial. It is also walked once for each RRset and each NSEC record that is
+//! given.
 #![tactic(auto)]
 
 mod chain;

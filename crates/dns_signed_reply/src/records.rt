@@ -21,7 +21,7 @@ use std::alloc::Global;
 /// The type whose walk passes a delegation point (RFC 4035, section 3.1.4.1).
 const DS: u16 = 43;
 
-/// Records, and others behind them.
+/// Records, and others after them.
 pub(crate) fn extended(records: Vec<Record>, more: Vec<Record>) -> Result<Vec<Record>, OutOfMemory>
     ensures { IfOk result (λ v. v.items ≡ records.items ++ more.items) }
 {
@@ -31,7 +31,7 @@ pub(crate) fn extended(records: Vec<Record>, more: Vec<Record>) -> Result<Vec<Re
     Ok(records)
 }
 
-/// Adds the record at a place, where it is of a type.
+/// Adds the record at a place, if it is of a type.
 fn add_kind(
     alloc: Global,
     records: &[Record],
@@ -88,7 +88,7 @@ fn copied_as(alloc: Global, resource: &Record, name: &NameRef<'_>) -> Result<Rec
     Ok(copy)
 }
 
-/// Adds the record at a place as another name's, where it is of a type.
+/// Adds the record at a place as another name's, if it is of a type.
 fn add_kind_as(
     alloc: Global,
     records: &[Record],
@@ -140,7 +140,7 @@ pub(crate) fn of_wildcard(
     at_kinds_as(alloc, zone.records(), kinds.as_slice(), rtype, name)
 }
 
-/// Adds the record at a place, where there is one.
+/// Adds the record at a place, if there is one.
 fn add_place(
     alloc: Global,
     records: &[Record],
@@ -182,7 +182,7 @@ pub(crate) fn is_in_zone(zone: &ZoneTree, name: &NameRef<'_>) -> bool
     name.ends_with(&zone.apex().for_ref())
 }
 
-/// The records of a type that a name in the zone owns, where the zone has authority over it: those at a delegation point too.
+/// The records of a type that a name in the zone owns, if the zone has authority over it: those at a delegation point too.
 fn owned_within(
     zone: &ZoneTree,
     alloc: Global,
@@ -201,7 +201,7 @@ fn owned_within(
     }
 }
 
-/// The records of a type that a name owns, where the zone has authority over it.
+/// The records of a type that a name owns, if the zone has authority over it.
 pub(crate) fn owned_records(
     zone: &ZoneTree,
     alloc: Global,
@@ -233,7 +233,7 @@ fn of_missing(
     }
 }
 
-/// The records of a type that a name in the zone has, where the zone has authority over it.
+/// The records of a type that a name in the zone has, if the zone has authority over it.
 fn had_within(
     zone: &ZoneTree,
     alloc: Global,

@@ -146,7 +146,7 @@ fn keeps_room(built: &Result<AdditionalBuilder, PushError>, room: u16) -> bool
     }
 }
 
-/// The reply to a query as it is built, without the additional records behind so many where there is no room for them.
+/// The reply to a query as it is built, without the additional records after that many if there is no room for them.
 fn in_room(
     alloc: Global,
     query: &Message,
@@ -169,7 +169,7 @@ fn in_room(
     built(alloc, query, reply, &answers, &authority, &some)
 }
 
-/// The first of some records as they are written, of so many.
+/// The first of some records as they are written, of that many.
 fn first_written(
     alloc: Global,
     records: &[Record],
@@ -206,7 +206,7 @@ fn with_signatures(
 }
 
 /// The reply of a signed zone to a question for a name at or below its apex, as it is built (RFC 4035, section 3.1). The RRSIGs
-/// of additional records are left out where the message would take more octets than there is room for.
+/// of additional records are left out if the message would take more octets than there is room for.
 pub fn secure_reply(
     zone: &SignedZone,
     alloc: Global,

@@ -16,7 +16,7 @@ use std::alloc::Global;
 /// The type of RRSIG records.
 const RRSIG: u16 = 46;
 
-/// The octet at a place, or 0 where there is none.
+/// The octet at a place, or 0 if there is none.
 fn octet_at(octets: &[u8], place: usize) -> u8
     ensures { result ≡ slice_index octets.now place }
 {
@@ -136,7 +136,7 @@ fn add_rrsigs(
     add_signatures(zone, alloc, one, into)
 }
 
-/// The RRSIGs of records, once for each RRset, but for an owner whose RRSIGs are among them.
+/// The RRSIGs of records, once for each RRset, except for an owner whose RRSIGs are among them.
 fn rrsigs(zone: &ZoneTree, alloc: Global, records: &[Record]) -> Result<Vec<Record>, OutOfMemory>
     ensures { IfOk result (λ v. v.items ≡ rrsigs zone.now records.now [] records.now) }
 {
@@ -147,7 +147,7 @@ fn rrsigs(zone: &ZoneTree, alloc: Global, records: &[Record]) -> Result<Vec<Reco
     Ok(found)
 }
 
-/// Records, and behind them their RRSIGs.
+/// Records, and after them their RRSIGs.
 pub(crate) fn with_rrsigs(
     zone: &ZoneTree,
     alloc: Global,

@@ -52,7 +52,7 @@ fn nothing(alloc: Global) -> PlainReply
     authoritative(alloc, none)
 }
 
-/// The first of the CNAME records of a name, where it is followed for a type.
+/// The first of the CNAME records of a name, if it is followed for a type.
 fn followed_alias(rtype: u16, aliases: &[Record]) -> Option<&Record>
     ensures { option_copied result ≡ followed_alias rtype aliases.now }
 {
@@ -161,7 +161,7 @@ fn at_missing(
     }
 }
 
-/// The target of a CNAME record that is made of a DNAME record, where it is followed for a type.
+/// The target of a CNAME record that is made of a DNAME record, if it is followed for a type.
 fn gone_to(alloc: Global, rtype: u16, to: Name) -> Step
     ensures { (go : List (List ℕ) → ZoneReply) → step_reply go result ≡ (if follows rtype then go to else authoritative []) }
 {
@@ -202,7 +202,7 @@ fn too_long(alloc: Global) -> PlainReply
     reply
 }
 
-/// Gives the CNAME record that is made of a DNAME record, where its target isn't too long, and goes to that.
+/// Gives the CNAME record that is made of a DNAME record, if its target isn't too long, and goes to that.
 fn substituted(
     alloc: Global,
     rtype: u16,
@@ -226,7 +226,7 @@ fn substituted(
     }
 }
 
-/// What a name below a DNAME record leads to, where that has a target.
+/// What a name below a DNAME record leads to, if that has a target.
 fn by_target(
     alloc: Global,
     rtype: u16,
@@ -287,7 +287,7 @@ fn at_cut(zone: &ZoneTree, alloc: Global, kinds: &Kinds) -> Result<Step, OutOfMe
     Ok(Step::End(reply))
 }
 
-/// What a name leads to, where a type is asked for.
+/// What a name leads to, if a type is asked for.
 pub(crate) fn step_of(
     zone: &ZoneTree,
     alloc: Global,

@@ -20,7 +20,7 @@ abbrev pub one_of : Option NsecState → List NsecState
 one_of None = []
 one_of (Some n) = n ∷ []
 
--- the first and the second NSEC, where they are
+-- the first and the second NSEC, if they are
 abbrev pub proved_by : Option NsecState → Option NsecState → List NsecState
 proved_by a b = one_of a ++ one_of b
 
@@ -50,7 +50,7 @@ head_of (r ∷ rs) = Some r
 abbrev pub servers_at : ZoneState → Kinds → List Record
 servers_at z m = at_places z.records (kind_places 2 m)
 
--- the last NSEC that is not behind a name, where there is one
+-- the last NSEC that is not after a name, if there is one
 abbrev pub IsAlone : List NsecState → List (List ℕ) → Option NsecState → Option NsecState → Type 0
 IsAlone ns name None b = AllBehind ns name
 IsAlone ns name (Some n) b = IsLast ns name n × (b ≡ None)
@@ -58,11 +58,12 @@ IsAlone ns name (Some n) b = IsLast ns name n × (b ≡ None)
 abbrev pub IsOne : List NsecState → List (List ℕ) → Proofs → Type 0
 IsOne ns name p = IsAlone ns name (option_copied p.first) (option_copied p.second)
 
--- and the last that is not behind the wildcard which that one shows
+-- two NSECs: the last that is not after a name, and the last that is not after the wildcard which the first shows
 abbrev pub ArePair : List NsecState → List (List ℕ) → Option NsecState → Option NsecState → Type 0
 ArePair ns name None b = HasNoZone ns name
 ArePair ns name (Some n) None = ⊥
 ArePair ns name (Some n) (Some m) = AreLast ns name n m
 
+-- the NSECs that are given for a name: the last that is not after it, and the last that is not after its wildcard
 abbrev pub IsTwo : List NsecState → List (List ℕ) → Proofs → Type 0
 IsTwo ns name p = ArePair ns name (option_copied p.first) (option_copied p.second)

@@ -19,7 +19,7 @@
 //! # What is proved
 //!
 //! - A `SignedZone` has a whole chain: `of` and `new` give Ok only for one. That of `of` is the NSECs of its records, and a
-//!   refusal says the first cause.
+//!   refusal says a cause.
 //! - Whatever the reply says of the name is accepted by the definition of a validator with these NSECs: for each type but
 //!   RRSIG and NSEC, and DS at the apex, which the parent denies (RFC 6840, section 4.4).
 //! - They are NSECs of the zone.

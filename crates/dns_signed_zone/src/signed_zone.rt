@@ -105,7 +105,7 @@ fn at_cut<'a>(
     }
 }
 
-/// The NSECs of a chain that prove what the reply of a zone says of a name, where a type is asked for.
+/// The NSECs of a chain that prove what the reply of a zone says of a name, if a type is asked for.
 fn proofs_of<'a>(
     zone: &ZoneTree,
     chain: &'a Chain,
@@ -161,7 +161,7 @@ impl SignedZone {
         }
     }
 
-    /// The zone with its chain. Refused where the chain isn't whole.
+    /// The zone with its chain. Refused if the chain isn't whole.
     pub fn new(alloc: Global, zone: ZoneTree, chain: Chain) -> Result<SignedZone, ChainError>
         requires { tree_error zone.apex zone.records ≡ None }
         ensures { MatchResult result (λ s. s ≡ record { zone = zone; nsecs = chain }) (λ e. Breaks zone chain e) }
@@ -195,7 +195,7 @@ impl SignedZone {
         name.ends_with(&self.zone.apex().for_ref())
     }
 
-    /// The NSECs that prove what the reply to a question says of a name, where a type is asked for: they are the zone's, and a
+    /// The NSECs that prove what the reply to a question says of a name, if a type is asked for: they are the zone's, and a
     /// validator accepts them.
     pub fn proofs(
         &self,

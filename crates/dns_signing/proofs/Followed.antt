@@ -9,7 +9,7 @@ pub same_answers : (a b : ℕ → Answer) (p : SignerParts) (k : ℕ) → ((n : 
 same_answers a b p zero h = ap (signed_answer p) (h 0)
 same_answers a b p (suc k) h = ap (λ (q : SignerParts). signed_answers (λ n. a (suc n)) q k) (ap (behind_answer p) (h 0)) ∙ same_answers (λ n. a (suc n)) (λ n. b (suc n)) (behind_answer p (b 0)) k (λ n. h (suc n))
 
--- behind an error there is no answer
+-- after an error there is no answer
 behind_ended : (p : SignerParts) (x : Answer) → p.ended ≡ true → behind_answer p x ≡ p
 behind_ended p x e = rw e refl
 
@@ -17,7 +17,7 @@ pub none_left : (a : ℕ → Answer) (p : SignerParts) (k : ℕ) → p.ended ≡
 none_left a p zero e = rw e refl
 none_left a p (suc k) e = ap (λ (q : SignerParts). signed_answers (λ n. a (suc n)) q k) (behind_ended p (a 0) e) ∙ none_left (λ n. a (suc n)) p k e
 
--- the answers that are left behind a poll
+-- the answers that are left after a poll
 pub answers_left : (a b : ℕ → Answer) (p q : SignerParts) (k : ℕ) → ((n : ℕ) → b n ≡ a (suc n)) → q ≡ behind_answer p (a 0) → signed_answers b q k ≡ signed_answers a p (suc k)
 answers_left a b p q k h e = same_answers b (λ n. a (suc n)) q k h ∙ ap (λ (x : SignerParts). signed_answers (λ n. a (suc n)) x k) e
 

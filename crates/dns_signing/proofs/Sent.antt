@@ -1,4 +1,4 @@
--- Replies that are sent one behind the other.
+-- Replies that are sent one after the other.
 use Rattle.std.proofs.Common.{◌≡◌, ℕ, zero, suc, Bool, true, false, List, [], ◌∷◌, map, Some, None, refl, ap, ◌∙◌}
 use Rattle.std.specs.List.{AllByRecursion}
 use Rattle.dns_base.specs.Msg.{IsMessage, Msg}

@@ -15,7 +15,7 @@ use Rattle.dns_signing.specs.SignedReplies.{SignerParts, code_of, signed_message
 halves : (n : ℕ) → 256 * (n / 256) + n % 256 ≡ n
 halves n = omega arith
 
--- a record behind all others
+-- a record after all others
 body_more : (m : Msg) (r : ResourceRecord) → body (record m { additional = m.additional ++ r ∷ [] }) ≡ body m ++ record_octets r
 body_more m r =
     let fq = flat_map question_octets m.questions in
@@ -34,7 +34,7 @@ wire_more m t =
     let more : length (m.additional ++ r ∷ []) ≡ field 10 (wire m) + 1 = omega (arith, length-append m.additional (r ∷ []), halves (length m.additional)) in
     ap (λ (n : ℕ). take 10 (wire m) ++ (two n ++ body (record m { additional = m.additional ++ r ∷ [] }))) more ∙ ap (λ (xs : List ℕ). take 10 (wire m) ++ (two (field 10 (wire m) + 1) ++ xs)) (body_more m r)
 
--- the first reply is signed behind the MAC of the request
+-- the first reply is signed after the MAC of the request
 pub first_signs : (p : SignerParts) (m : Msg) → p.begun ≡ false → Signs p.key p.prior p.stamp [] (wire m) (wire (signed_message p (code_of p m) m)) (code_of p m)
 first_signs p m e = record {
   code = ap (λ (b : Bool). code_behind p.key (chain_at p.prior b) p.stamp (wire m)) e;

@@ -18,7 +18,7 @@ pub record HasRoom (p : SignerParts) : Type 0 where
   pub least : 23 ≤ p.room
   pub most : p.room + tsig_size p.key ≤ 65535
 
--- a reply is cut to its room and signed behind all its records
+-- a reply is cut to its room and signed after all its records
 abbrev pub signed_cut : SignerParts → Msg → Msg
 signed_cut p m = signed_message p (code_of p (cut p.room m)) (cut p.room m)
 
@@ -28,13 +28,13 @@ pub record IsAtClient (p : SignerParts) (now : ℕ) : Type 0 where
   pub named : IsName p.key.name
   pub timely : IsTimely now p.stamp
 
--- a reply is verified behind the request's MAC, and comes back as it was before it was signed
+-- a reply is verified after the request's MAC, and comes back as it was before it was signed
 abbrev pub VerifiesFirst : SignerParts → ℕ → ℕ → Msg → Type 0
 VerifiesFirst p least now m =
     let mac = code_of p m in
     Verifies p.key least now p.prior (wire m) (wire (signed_message p mac m)) (tsig_by p.key p.stamp (wire m) [] mac)
 
--- replies are taken one behind the other, each MAC whole
+-- replies are taken one after the other, each MAC whole
 abbrev pub client_takes : SignerParts → ℕ → List Msg → Result Chain TsigError
 client_takes p now replies = behind_all p.key (size_of p.key.algorithm) now (Ok (chain_behind p.prior))
     (map wire (signed_replies p replies))

@@ -18,14 +18,14 @@ pub record RefusalParts : Type 0 where
   pub fudge : ℕ
   pub tsig : Tsig
 
--- a message with a record behind all its others; one that would have more than so many octets is left as it is
+-- a message with a record after all its others; one that would have more than that many octets is left as it is
 abbrev pub and_record : Msg → ResourceRecord → Msg
 and_record m r = record m { additional = m.additional ++ r ∷ [] }
 
 abbrev pub with_record_within : ℕ → Msg → ResourceRecord → Msg
 with_record_within size m r = if nat_le (length (wire (and_record m r))) size then and_record m r else m
 
--- NOTAUTH, truncated where it leaves no room for a TSIG of so many octets (5.3)
+-- NOTAUTH, truncated if it leaves no room for a TSIG of that many octets (5.3)
 abbrev pub not_auth : RefusalParts → ℕ → Msg
 not_auth p n = error_within (p.size - n) p.octets 9
 

@@ -1,4 +1,4 @@
--- The replies to a signed request, each signed behind the one before (RFC 8945, sections 5.3 and 5.3.1).
+-- The replies to a signed request, each signed after the one before (RFC 8945, sections 5.3 and 5.3.1).
 use Rattle.std.specs.Prelude.{ℕ, zero, suc, Bool, true, List, [], ◌∷◌, ◌++◌, length, nat_le, if◌then◌else◌, Option, Some, None, option_map, Ok, Err}
 use Rattle.dns_hmac.specs.declared.mac.Mac.{Mac}
 use Rattle.dns_hmac.specs.Macs.{octets_of}
@@ -10,7 +10,7 @@ use Rattle.dns_service.specs.Errors.{rcode_of}
 use Rattle.dns_service.specs.declared.service.Polled.TheVariants.{Pending, Ready}
 use Rattle.dns_service.specs.declared.service.ServiceError.{ServiceError}
 use Rattle.dns_service.specs.declared.service.ServiceFeedback.TheVariants.{EndTransaction}
-use Rattle.dns_tsig.specs.declared.signing.Stamp.{Stamp}
+use Rattle.dns_tsig.specs.declared.signing.TsigFields.{TsigFields}
 use Rattle.dns_tsig.specs.Keys.{KeyParts}
 use Rattle.dns_tsig.specs.Tsig.{tsig_record}
 use Rattle.dns_tsig.specs.Signed.{tsig_by}
@@ -22,7 +22,7 @@ use Rattle.dns_signing.specs.ErrorResponse.{error_response}
 -- already, the octets of the request, and whether its service has failed
 pub record SignerParts : Type 0 where
   pub key : KeyParts
-  pub stamp : Stamp
+  pub stamp : TsigFields
   pub room : ℕ
   pub prior : List ℕ
   pub begun : Bool
@@ -38,7 +38,7 @@ prior_of request (Some mac) = octets_of mac
 abbrev pub code_of : SignerParts → Msg → List ℕ
 code_of p m = code_behind p.key (chain_at p.prior p.begun) p.stamp (wire m)
 
--- a reply with the TSIG of a code, behind all its other records
+-- a reply with the TSIG of a code, after all its other records
 abbrev pub signed_message : SignerParts → List ℕ → Msg → Msg
 signed_message p mac m = record m { additional = m.additional ++ tsig_record (tsig_by p.key p.stamp (wire m) [] mac) ∷ [] }
 
@@ -61,11 +61,11 @@ abbrev pub signed_item : SignerParts → Item → Item
 signed_item p (Ok given) = Ok (record given { response = option_map (signed p) given.response })
 signed_item p (Err error) = Ok (record { response = Some (signed p (error_of p error)); feedback = Some EndTransaction })
 
--- behind an error there is no item
+-- after an error there is no item
 abbrev pub signed_answer : SignerParts → Answer → Answer
 signed_answer p a = if p.ended then Ready None else mapped (signed_item p) a
 
--- what signs behind a reply
+-- what signs after a reply
 abbrev pub behind_reply : SignerParts → Option Msg → SignerParts
 behind_reply p None = p
 behind_reply p (Some m) = record p { prior = code_of p (cut p.room m); begun = true }
@@ -93,11 +93,11 @@ given [] k = Ready None
 given (m ∷ more) zero = Ready (Some (Ok (record { response = Some m; feedback = None })))
 given (m ∷ more) (suc k) = given more k
 
--- replies as they are sent, each signed behind the one before
+-- replies as they are sent, each signed after the one before
 abbrev pub signed_replies : SignerParts → List Msg → List Msg
 signed_replies p [] = []
 signed_replies p (m ∷ more) = signed p m ∷ signed_replies (behind_reply p (Some m)) more
 
 -- a reply as it is signed, with its stamp
-abbrev pub stamped : SignerParts → Msg → Option Stamp × Msg
+abbrev pub stamped : SignerParts → Msg → Option TsigFields × Msg
 stamped p m = (Some p.stamp, cut p.room m)

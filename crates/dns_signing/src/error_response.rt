@@ -8,7 +8,7 @@ use dns_name::OptRcode;
 use dns_service::{OutOfMemory, cut, mk_builder_for_target, mk_error_response, read_asked};
 use std::alloc::Global;
 
-/// The error reply to a request, with an OPT record where the request has one (RFC 6891, section 6.1.1).
+/// The error reply to a request, with an OPT record if the request has one (RFC 6891, section 6.1.1).
 pub(crate) fn error_response(
     alloc: Global,
     request: &Message,
@@ -23,7 +23,7 @@ pub(crate) fn error_response(
     Ok(reply.additional())
 }
 
-/// The error reply to a request, of so many octets at most.
+/// The error reply to a request, of that many octets at most.
 pub(crate) fn error_within(
     alloc: Global,
     request: &Message,

@@ -43,7 +43,7 @@ pub fn refusals_fit()
     ensures least { (r : Req (Unit {0})) → 512 ≤ own_size r }
 {}
 
-/// The first reply to a request verifies at its client, under the key and behind the request's MAC, at every time within the
+/// The first reply to a request verifies at its client, under the key and after the request's MAC, at every time within the
 /// fudge; and the client has the reply as it was before.
 pub fn signed_replies_verify()
     ensures { (p : SignerParts) (m : Msg) (least now : ℕ) → IsAtClient p now → IsBare m → least ≤ size_of p.key.algorithm

@@ -4,9 +4,9 @@
 //!   were verified under, or none. Zones, NOTIFY and transfers see the key by it.
 //! - A request with a TSIG is verified under the key of a `KeyStore` that it names, and handed on without its TSIG. One
 //!   without a TSIG is answered as before.
-//! - `Signer` signs the replies, each behind the one before, and `SignedStream` is the stream of them.
+//! - `Signer` signs the replies, each after the one before, and `SignedStream` is the stream of them.
 //! - A request that doesn't verify gets NOTAUTH: unsigned for BADKEY and BADSIG, signed for BADTIME and BADTRUNC. One
-//!   whose TSIG can't be interpreted gets FORMERR. Such a reply has an OPT record where the request has one.
+//!   whose TSIG can't be interpreted gets FORMERR. Such a reply has an OPT record if the request has one.
 //!
 //! It exports `Key`, `KeyStore` and `Algorithm` of dns_tsig.
 //!
@@ -18,12 +18,12 @@
 //!
 //! - A request without a TSIG is answered exactly as by the service inside (`unsigned_requests_are_as_before`).
 //! - A request that verifies is answered as the service inside answers it without its TSIG, each reply signed
-//!   (`verified_requests_are_signed_back`). The first reply is digested behind the request's MAC, each later one behind
+//!   (`verified_requests_are_signed_back`). The first reply is digested after the request's MAC, each later one after
 //!   the one before.
 //! - The client takes the first reply, under the key and after the request's MAC (`signed_replies_verify`). It takes all replies of
 //!   a transfer, one after the other (`signed_transfers_are_taken`).
 //! - A request that doesn't verify never reaches the service inside (`unknown_keys_are_refused`, `verified`).
-//! - A reply is cut to what leaves room for its TSIG, behind OPT and all other records. It is always signed, and fits
+//! - A reply is cut to what leaves room for its TSIG, after OPT and all other records. It is always signed, and fits
 //!   what its transport allows (`signed_replies_fit`). So does a reply that refuses a request (`refusals_fit`).
 //! - An error of the service becomes a signed error reply, and ends the replies (`signed_item`).
 //!

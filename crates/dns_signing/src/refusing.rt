@@ -88,7 +88,7 @@ fn signed_reply(
     Ok(reply)
 }
 
-/// NOTAUTH, truncated where it leaves no room for a TSIG of so many octets (RFC 8945, section 5.3).
+/// NOTAUTH, truncated if it leaves no room for a TSIG of that many octets (RFC 8945, section 5.3).
 fn not_auth(
     alloc: Global,
     request: &Request<()>,
@@ -100,7 +100,7 @@ fn not_auth(
     error_within(alloc, request.message(), OptRcode::NOTAUTH, room)
 }
 
-/// Adds a TSIG record to a reply, unless the reply would then have more than so many octets.
+/// Adds a TSIG record to a reply, unless the reply would then have more than that many octets.
 fn push_within(
     alloc: Global,
     size: u16,

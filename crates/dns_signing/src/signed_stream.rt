@@ -8,7 +8,7 @@ use crate::signer::Signer;
 use dns_service::{OutOfMemory, Polled, PolledRequest, ReplyFuture, ReplyStream, ServiceResult};
 use std::alloc::Global;
 
-/// Answers as the inner service does, and signs each reply behind the one before. An error of the service is answered by a
+/// Answers as the inner service does, and signs each reply after the one before. An error of the service is answered by a
 /// signed error reply, and then the replies end.
 #[derive(Drop)]
 pub struct SignedStream<F: ReplyFuture> {

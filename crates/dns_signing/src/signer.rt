@@ -13,17 +13,17 @@ use dns_name::OptRcode;
 use dns_service::{
     CallResult, OutOfMemory, Polled, ServiceError, ServiceFeedback, ServiceResult, cut,
 };
-use dns_tsig::{Key, Mac, Stamp, stream_code, tsig_record};
+use dns_tsig::{Key, Mac, TsigFields, stream_code, tsig_record};
 use std::alloc::Global;
 use std::marker::Model;
 use std::sync::Arc;
 
-/// Signs the replies to one request, each behind the one before. It has the key, the stamp of each reply and how many octets a
+/// Signs the replies to one request, each after the one before. It has the key, the stamp of each reply and how many octets a
 /// reply may have before its TSIG. It has the MACs of the request and of the last reply, and the request.
 #[derive(Drop)]
 pub struct Signer {
     key: Arc<Key>,
-    stamp: Stamp,
+    stamp: TsigFields,
     room: u16,
     request_mac: Vec<u8>,
     last: Option<Mac>,
@@ -55,7 +55,7 @@ impl Signer {
     /// The signer before the first reply to a request, which is the message without its TSIG.
     pub fn new(
         key: Arc<Key>,
-        stamp: Stamp,
+        stamp: TsigFields,
         room: u16,
         request_mac: Vec<u8>,
         request: Arc<Message>,
@@ -83,14 +83,14 @@ impl Signer {
         }
     }
 
-    /// Whether the service failed: behind its error there is no reply.
+    /// Whether the service failed: after its error there is no reply.
     pub(crate) fn has_ended(&self) -> bool
         ensures { result ≡ self.now.ended }
     {
         self.ended
     }
 
-    /// Signs the reply in an answer, where it has one.
+    /// Signs the reply in an answer, if it has one.
     pub(crate) fn sign_answer(
         &mut self,
         alloc: Global,
@@ -138,7 +138,7 @@ impl Signer {
         Ok(CallResult::new(reply).with_feedback(ServiceFeedback::EndTransaction))
     }
 
-    /// Signs the reply of a result, where it has one.
+    /// Signs the reply of a result, if it has one.
     fn sign_given(&mut self, alloc: Global, given: &mut CallResult) -> Result<(), OutOfMemory>
         ensures item { OnOk result (Ok given.new ≡ signed_item self.old (Ok given.old)) }
         ensures behind { OnOk result (self.new ≡ behind_reply self.old given.old.response) }
@@ -149,7 +149,7 @@ impl Signer {
         }
     }
 
-    /// Truncates a reply that leaves no room for a TSIG, and signs it behind all its other records.
+    /// Truncates a reply that leaves no room for a TSIG, and signs it after all its other records.
     fn sign_reply(
         &mut self,
         alloc: Global,
@@ -162,7 +162,7 @@ impl Signer {
         self.sign_whole(alloc, reply)
     }
 
-    /// Signs a reply behind all its other records; one of too many octets is left as it is.
+    /// Signs a reply after all its other records; one of too many octets is left as it is.
     fn sign_whole(
         &mut self,
         alloc: Global,

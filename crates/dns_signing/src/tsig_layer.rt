@@ -23,7 +23,7 @@ use dns_service::{
     CallResult, Now, Once, OutOfMemory, ReplyFuture, ReplyStream, Request, Service, limit_over,
 };
 use dns_stream::MiddlewareStream;
-use dns_tsig::{Key, KeyStore, Signed, Stamp, TsigError, find};
+use dns_tsig::{Key, KeyStore, Signed, TsigError, TsigFields, find};
 use std::alloc::Global;
 use std::sync::Arc;
 
@@ -180,7 +180,7 @@ impl<S: Service<Option<usize>>> TsigMiddlewareSvc<S> {
     {
         let mut mac = Vec::new(alloc);
         mac.extend_from_slice(signed.tsig().mac())?;
-        let stamp = Stamp {
+        let stamp = TsigFields {
             time: clock(request),
             fudge: self.fudge,
             error: 0,

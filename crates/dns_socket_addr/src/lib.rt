@@ -1,9 +1,10 @@
 //! Addresses with a port, for programs that serve at them.
 //!
-//! - `SocketAddrText` is one as text: the address of IPv6 in brackets (RFC 3986, section 3.2.2), and the port behind a colon.
+//! - `SocketAddrText` is one as text: the address of IPv6 in brackets (RFC 3986, section 3.2.2), and the port after a colon.
 //! - `to_std` is one as std has it.
 //! - `same_socket_addr` says whether two are the same.
-//! - `unspecified_like` is the unspecified address of the kind of another, for a socket from which that one is told.
+//! - `unspecified_like` is the unspecified address of the kind of another, for a socket that sends to it.
+//! - std is Rattle's library, whose sockets take these.
 //!
 //! ```text
 //! 192.0.2.1:53          [2001:db8:0:0:0:0:0:1]:53

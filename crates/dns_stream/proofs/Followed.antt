@@ -1,4 +1,4 @@
--- The answers of a middleware stream behind a poll of its future.
+-- The answers of a middleware stream after a poll of its future.
 use Rattle.std.proofs.Common.{◌≡◌, ℕ, suc, Result, Ok, Err, IfOk, ap, sym, subst, ◌∙◌}
 use Rattle.std.specs.Prelude.{OnOk}
 use Rattle.dns_service.specs.declared.service.Polled.{Polled}

@@ -22,7 +22,7 @@ middleware_size r m o (IdentityStream stream) = r stream
 middleware_size r m o (Map stream) = m stream
 middleware_size r m o (Own stream) = o stream
 
--- what a stream becomes and answers behind a poll of its future: that of the future's stream where it is ready
+-- what a stream becomes and answers after a poll of its future: that of the future's stream if it is ready
 abbrev pub Follows : {E F R M O : Type 0} → Result (Polled (R × Answer)) E → MiddlewareStream F R M O → MiddlewareStream F R M O
     → Result Answer E → Type 0
 Follows (Ok Pending) old new result = (result ≡ Ok Pending) × (new ≡ old)

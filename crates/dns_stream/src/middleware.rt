@@ -20,7 +20,7 @@ pub enum MiddlewareStream<F, R, M, O> {
 }
 
 impl<F: Drop, R: Drop, M: Drop, O: Drop> MiddlewareStream<F, R, M, O> {
-    /// Answers as a future that was polled, and goes on as its stream where it was ready.
+    /// Answers as a future that was polled, and goes on as its stream if it was ready.
     fn follow(
         &mut self,
         polled: Result<Polled<(R, Polled<Option<ServiceResult>>)>, OutOfMemory>,

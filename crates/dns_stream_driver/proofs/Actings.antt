@@ -39,7 +39,7 @@ module _ {W R F : Type 0} (answer : PolledRequest F R → ℕ → Answer) where
   acted_part (Ok why) event l l' j j' client below core n n' t t' a b = tt
   acted_part (Err e) event l l' j j' client below core n n' t t' a b = record { observed = λ m. let x = a.observed m.0 in let y = b.observed m.1 in ((x.0, y.0), record { part = inr (record { event = event; chosen = x.1; noted = y.1 }) }) }
 
-  -- the event of a read, where no frame waits and no request is to be polled
+  -- the event of a read, if no frame waits and no request is to be polled
   pub read_chosen : (r : Result Event OutOfMemory) (l l' : Type 0) (client below : ℕ) (core : ClientCore W R F) (t t' : Traffic) →
       None ≡ slice_get (waiting core.state) 0 → ((answers : Serving) (s : Slate) → Stands answer answers core s → None ≡ slice_get s.queue 0) →
       ((answers : Serving) (s : Slate) → Stands answer answers core s → None ≡ next_turn below s.requests) →

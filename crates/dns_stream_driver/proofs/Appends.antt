@@ -1,4 +1,4 @@
--- What holds of two lists of events holds of both behind each other.
+-- What holds of two lists of events holds of both after each other.
 use Rattle.std.proofs.Common.{◌≡◌, ℕ, ◌+◌, List, [], ◌∷◌, ◌++◌, length, refl, sym, ◌∙◌, ap, arith, append_assoc, append-nil, Option, Some, None}
 use Rattle.dns_events.specs.declared.look.Look.{Look}
 use Rattle.dns_admission.specs.declared.call.Call.{Call}
@@ -113,7 +113,7 @@ module _ (answers : Serving) where
   last_later s es hs None l = tt
   last_later s es hs (Some why) l = record { before = es ++ l.before; event = l.event; is = ap (λ (x : List Event). es ++ x) l.is ∙ sym (append_assoc es l.before (l.event ∷ [])); closes = rw (after_append s es l.before) l.closes }
 
--- outputs that come later decide, where there are some
+-- outputs that come later decide, if there are some
 closed_tail : (os : List Output) (p : Output) (ps : List Output) → closed_by (os ++ p ∷ ps) ≡ closed_by (p ∷ ps)
 closed_tail [] p ps = refl
 closed_tail (o ∷ []) p ps = refl

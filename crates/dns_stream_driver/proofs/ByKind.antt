@@ -60,7 +60,7 @@ module _ (answers : Serving) where
   turn_stays e k (Some r) s p = in_either (λ (t : Slate). Stays s t) r.done s (turn_request answers e.at k r.held r s) (λ _. stays s) (λ _. turn_goes answers e (λ s t. Stays s t.0) (turns_stay e) k r.held r s p)
 
 -- what an own event does, as far as its kind decides: the part that was written are the frames that it sends, and perhaps a part of
--- one more; the configurations stay; and where the connection isn't closed it is served on
+-- one more; the configurations stay; and if the connection isn't closed it is served on
 pub record Does (queue : List (List ℕ)) (part : List ℕ) (conf : Conf) (faults : ℕ) (t : Effect) : Type 0 where
   pub extra : List ℕ
   pub is : part ≡ frame_octets t.1 ++ extra
@@ -100,7 +100,7 @@ flushed_does : (why : Why) (m : List ℕ) (ms : List (List ℕ)) (s : Slate) (pa
 flushed_does why m [] s part o w e = rw w (record { extra = []; is = rw (append-nil m, append-nil m) e; cut = refl; conf_is = refl; on = tt; breaks = λ n. refl })
 flushed_does why m (n ∷ ms) s part o w e = record { extra = []; is = rw (append-nil m, append-nil m) e; cut = refl; conf_is = refl; on = rw o (w, omega arith); breaks = λ n. refl }
 
--- the whole of the first frame was written, where the write took no longer than it may
+-- the whole of the first frame was written, if the write took no longer than it may
 wrote_all : (took limit : ℕ) (m : List ℕ) (ms : List (List ℕ)) (part : List ℕ) → nat_lt limit took ≡ false → WrittenPart (Write took) (m ∷ ms) limit part → part ≡ m
 wrote_all took limit m ms part e h = let l : took ≤ limit = grind (arith, nat_tests, e) in h.is ∙ take_all h.written m (h.whole l)
 

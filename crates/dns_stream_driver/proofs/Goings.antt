@@ -75,7 +75,7 @@ wide_closes WriteTimeout e s w v c = let no : is_wide (Write c.took) ≡ true = 
 wide_closes Commanded e s w v c = absurd (never_commanded e s v (wide_served e.kind w) c)
 wide_closes ByShutdown e s w v c = (refl, c)
 
--- news, in which a Shutdown stands only where the look shows one
+-- news, in which a Shutdown stands only if the look shows one
 abbrev pub AreNews : Look → List Event → Type 0
 AreNews look [] = Unit {0}
 AreNews look (e ∷ es) = (is_wide e.kind ≡ true) × (e.kind ≡ Shutdown → look.closed ≡ true) × AreNews look es
@@ -161,7 +161,7 @@ module _ (answers : Serving) where
 
 module _ {W R F : Type 0} (answer : PolledRequest F R → ℕ → Answer) (answers : Serving) where
   -- The core stands for a slate of a connection that is served on. The seat made calls under its name, and one of them was a look that
-  -- showed a shutdown where the connection only writes what waits. The link's count of faults stayed.
+  -- showed a shutdown if the connection only writes what waits. The link's count of faults stayed.
   pub record Goes (core : ClientCore W R F) (k k' : Known) (faults faults' : ℕ) : Type 0 where
     pub slate : Slate
     pub stands : Stands answer answers core slate
@@ -211,7 +211,7 @@ module _ {W R F : Type 0} (answer : PolledRequest F R → ℕ → Answer) (answe
         same = g.same;
       }
 
-  -- and where that closes the connection, it is by a shutdown, which a look showed
+  -- and if that closes the connection, it is by a shutdown, which a look showed
   pub heard_why : (why : Why) (core core' : ClientCore W R F) (k k1 k2 : Known) (f f1 : ℕ) → Goes core k k1 f f1 → HeardFor answer (Some why) core core' k1 k2 → (why ≡ ByShutdown) × SawShutdown k k2
   heard_why why core core' k k1 k2 f f1 g h =
       let d = does_told answers core.version h.look g.slate g.served in
@@ -229,7 +229,7 @@ module _ {W R F : Type 0} (answer : PolledRequest F R → ℕ → Answer) (answe
   own_closes : (core core' : ClientCore W R F) (why : Option Why) (k k1 : Known) (f f1 f2 : ℕ) (g : Goes core k k1 f f1) (a : ActedFor answer answers why core core' f1 f2) → closed_by (rule answers a.event g.slate).1 ≡ why
   own_closes core core' why k k1 f f1 f2 g a = ap closed_by (sym (a.taken.follows g.slate g.stands).0) ∙ a.taken.closed
 
-  -- the count stays but where a fault closes it
+  -- the count stays unless a fault closes it
   own_same : (core core' : ClientCore W R F) (why : Option Why) (k k1 : Known) (f f1 f2 : ℕ) → Goes core k k1 f f1 → ActedFor answer answers why core core' f1 f2 → ¬ (why ≡ Some ByFault) → f2 ≡ f
   own_same core core' why k k1 f f1 f2 g a n = a.chosen.blames.same (no_fault answers a.event g.slate why g.on (own_closes core core' why k k1 f f1 f2 g a) n) ∙ g.same
 

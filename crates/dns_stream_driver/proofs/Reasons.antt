@@ -122,7 +122,7 @@ module _ (answers : Serving) where
   of_conf e s conf WriteTimeout r = record { took = r.took; kind = r.kind; late = r.late }
   of_conf e s conf _ r = r
 
-  -- where an event closes a connection that is served, its reason is this
+  -- if an event closes a connection that is served, its reason is this
   pub reason : (e : Event) (s : Slate) → IsServedIn s.phase → HasReason e s (rule answers e s)
   reason e s v why h =
       let conf = conf_rule e.kind s.conf in

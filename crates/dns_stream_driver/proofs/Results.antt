@@ -1,4 +1,4 @@
--- What holds where a call succeeds, and where it is refused.
+-- What holds if a call succeeds, and if it is refused.
 use Rattle.std.specs.Prelude.{Result, Ok, Err, IfOk, OnErr}
 use Rattle.dns_io.specs.Causes.{Observed}
 

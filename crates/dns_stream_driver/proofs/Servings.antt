@@ -19,7 +19,7 @@ use Rattle.dns_stream_driver.specs.Links.{piece_octets}
 use Rattle.dns_stream_driver.proofs.ByKind.{in_either, turn_stays}
 use Rattle.dns_stream_driver.proofs.Reasons.{IsServedBy, IsServedIn}
 
--- the states that may follow, and the octets received: those of before and those of the event's piece
+-- the states that may follow, and the octets received: those from before and those of the event's piece
 pub record Serves (e : Event) (s t : Slate) : Type 0 where
   pub served : IsServedIn t.phase
   pub received : t.phase ≡ Open → (s.phase ≡ Open) × (t.received ≡ s.received ++ piece_octets e.kind)

@@ -160,6 +160,6 @@ module _ {W R F : Type 0} (answer : PolledRequest F R → ℕ → Answer) (answe
     shows = shows answers why s client first n n2 k k2 t t2 p o y (wrote_last why s client first core n n1 n2 k k1 k2 t t1 t2 p f x stands w y);
   }
 
--- after a look, where the connection is closed by a shutdown
+-- after a look, if the connection is closed by a shutdown
 pub shown_heard : (answers : Serving) (why : Why) (s : Slate) (client : ℕ) (first : Look) (n n' : List Event) (k k' : Known) (t t' : Traffic) → why ≡ ByShutdown → Story answers s client first (Some why) n n' k k' t t' → Shown answers s why n n' t t'
 shown_heard answers why s client first n n' k k' t t' e y = record { events = y.events; noted = y.noted; shows = rw e tt }

@@ -66,7 +66,7 @@ quiet (e ∷ es) w = let a = quiet es w.1 in let b = quiet_one e.kind w.0 in rec
   turns = λ below. rw (b.turn below) (a.turns below);
 }
 
--- where they name nobody, they are among the events of any client
+-- if they name nobody, they are among the events of any client
 pub nobodys_of : (client : ℕ) (es : List Event) → AllWide (kinds es) → AreNobodys es → AllOf client es
 nobodys_of client [] w n = tt
 nobodys_of client (e ∷ es) w n = (rw w.0 n.0, nobodys_of client es w.1 n.1)
@@ -195,7 +195,7 @@ module _ (answers : Serving) where
   wide_frames s [] w = refl
   wide_frames s (e ∷ es) w = frames_both (rule answers e s).1 (sent_after answers (rule answers e s).0 es) (phase_frameless e e.kind s.phase (with_conf (conf_rule e.kind s.conf) s) refl w.0) (wide_frames (rule answers e s).0 es w.1)
 
-  -- the last event of the news closes, where they close
+  -- the last event of the news closes, if they close
   phase_silent : (e : Event) (dgram : Dgram) (stream : Stream) (p : Phase) (s : Slate) → e.kind ≡ Reconfigure dgram stream → (in_phase answers e p s).1 ≡ []
   phase_silent e dgram stream Unused s h = rw h refl
   phase_silent e dgram stream _ s h = rw h refl

@@ -26,24 +26,24 @@ use Rattle.dns_stream_driver.specs.Steps.{Chosen, SeesLook, TakesEvent}
 use Rattle.dns_stream_driver.specs.declared.writing.WriteEnd.{WriteEnd}
 use Rattle.dns_stream_driver.specs.declared.writing.WriteEnd.TheVariants.{Failed, Late}
 
--- while a frame was written the link's count of faults rose where a write failed, and else stayed
+-- while a frame was written the link's count of faults rose if a write failed, and else stayed
 pub record EndBlames (end : WriteEnd) (faults faults' : ℕ) : Type 0 where
   pub later : faults ≤ faults'
   pub failed : end ≡ Failed → Rose faults faults'
   pub same : ¬ (end ≡ Failed) → faults' ≡ faults
 
--- where that took too long, a write answered Again
+-- if that took too long, a write answered Again
 pub record EndAgain (end : WriteEnd) (again again' : ℕ) : Type 0 where
   pub later : again ≤ again'
   pub late : (at secs : ℕ) → end ≡ Late at secs → again < again'
 
--- with an event the link's count of faults rose where it is a Fault, and else stayed
+-- with an event the link's count of faults rose if it is a Fault, and else stayed
 pub record Blames (kind : EventKind) (faults faults' : ℕ) : Type 0 where
   pub later : faults ≤ faults'
   pub fault : kind ≡ Fault → Rose faults faults'
   pub same : ¬ (kind ≡ Fault) → faults' ≡ faults
 
--- behind a Write stands its whole frame, or a write answered Again
+-- after a Write stands its whole frame, or a write answered Again
 pub record WroteWhole (kind : EventKind) (frame : List ℕ) (t t' : Traffic) : Type 0 where
   pub later : t.full_writes ≤ t'.full_writes
   pub write : (took : ℕ) → kind ≡ Write took → (t'.went ≡ t.went ++ frame) ⊎ (t.full_writes < t'.full_writes)

@@ -27,7 +27,7 @@ pub record WasOffered (answers : Serving) (why : Why) (client : ℕ) (addr : Soc
   pub secs : ℕ
   pub story : Story answers (began client addr at look) client look (Some why) (n ++ offer client addr at secs ∷ []) n' k k' t t'
 
--- and then the slot was given back
+-- a connection was served: the Offer was noted, a story closed it, and then the slot was given back
 pub record WasServed (answers : Serving) (why : Why) (client : ℕ) (addr : SocketAddr) (look : Look) (n n' : List Event)
     (k k' : Known) (t t' : Traffic) : Type 0 where
   pub between : Known
@@ -59,12 +59,12 @@ abbrev pub EndShown : Serving → ConnectionEnd → ℕ → SocketAddr → Look 
 EndShown answers (Closed why) client addr look n n' t t' = ShownFrom answers why client addr look n n' t t'
 EndShown answers OutOfMemory client addr look n n' t t' = Unit {0}
 
--- and whether link and recorder tell or not; where memory ran out, the count of faults did not fall
+-- why a connection ended, whether link and recorder tell or not; if memory ran out, the count of faults did not fall
 abbrev pub EndCauses : ConnectionEnd → Known → Known → ℕ → ℕ → Type 0
 EndCauses (Closed why) k k' faults faults' = Causes why k k' faults faults'
 EndCauses OutOfMemory k k' faults faults' = faults ≤ faults'
 
--- what is promised where the connection was closed
+-- what is promised if the connection was closed
 abbrev pub WhereClosed : ConnectionEnd → Type 0 → Type 0
 WhereClosed (Closed why) promise = promise
 WhereClosed OutOfMemory promise = Unit {0}

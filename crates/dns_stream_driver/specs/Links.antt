@@ -71,7 +71,7 @@ pub record WroteFront (n : ℕ) (piece : List ℕ) (a b : Traffic) : Type 0 wher
   pub ticks : b.empty_reads ≡ a.empty_reads
   pub ends : b.ends ≡ a.ends
 
--- how much of so many octets is written at each end
+-- how much of that many octets is written at each end
 abbrev pub EndsWriting : WriteEnd → ℕ → ℕ → ℕ → ℕ → Type 0
 EndsWriting Whole done size start limit = size ≤ done
 EndsWriting Failed done size start limit = done ≤ size
@@ -89,7 +89,7 @@ WaitedTo Whole again again' c c' = Waited again again' c c'
 WaitedTo Failed again again' c c' = Waited again again' c c'
 WaitedTo (Late at secs) again again' c c' = LateAt (at, secs) again again' c c'
 
--- what was written for an event: a part of the first frame, and the whole where a Write stands within the limit
+-- what was written for an event: a part of the first frame, and the whole if a Write stands within the limit
 pub record WritesPart (took : ℕ) (queue : List (List ℕ)) (limit : ℕ) (part : List ℕ) : Type 0 where
   pub written : ℕ
   pub is : part ≡ take written (front queue)

@@ -27,7 +27,7 @@ MayGoOn _ queue = ⊥
 abbrev pub IsServed : Slate → Type 0
 IsServed s = MayGoOn s.phase s.queue
 
--- where no output closed it
+-- if no output closed it
 abbrev pub ServesOn : Option Why → Slate → Type 0
 ServesOn None s = IsServed s
 ServesOn (Some why) s = Unit {0}

@@ -25,7 +25,7 @@ pub record LastIs (answers : Serving) (s : Slate) (events : List Event) (Is : Ev
   pub is : events ≡ before ++ event ∷ []
   pub such : Is event (slate_after answers s before)
 
--- A Write that took more than the timeout in force. Behind what was written before it stands its whole frame, or a write answered
+-- A Write that took more than the timeout in force. After what was written before it stands its whole frame, or a write answered
 -- Again.
 pub record IsLateWrite (written : List ℕ) (t t' : Traffic) (e : Event) (s : Slate) : Type 0 where
   pub long : IsLongWrite e s
@@ -53,7 +53,7 @@ pub record SawShutdown (k k' : Known) : Type 0 where
   pub calls : Gained k (before ++ entry k.name ToLook (LookReply look) ∷ after) k'
   pub closed : look.closed ≡ true
 
--- What the link's count of faults and the seat show, whether link and recorder tell or not. The count rose where the connection was
+-- What the link's count of faults and the seat show, whether link and recorder tell or not. The count rose if the connection was
 -- closed by a fault, and else stayed. No connection is closed by a command.
 abbrev pub Causes : Why → Known → Known → ℕ → ℕ → Type 0
 Causes ByFault k k' faults faults' = Rose faults faults'

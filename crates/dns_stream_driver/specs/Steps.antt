@@ -30,7 +30,7 @@ pub record LookedOnce (k k' : Known) : Type 0 where
   pub look : Look
   pub called : Called k ToLook (Shown look) k'
 
--- the event at the end, or perhaps not where memory ran out
+-- the event at the end, or perhaps not if memory ran out
 abbrev pub NotedOrNot : {A : Type 0} → Result A OutOfMemory → List Event → Event → List Event → Type 0
 NotedOrNot (Ok a) n e n' = n' ≡ n ++ e ∷ []
 NotedOrNot (Err no_memory) n e n' = (n' ≡ n ++ e ∷ []) ⊎ (n' ≡ n)

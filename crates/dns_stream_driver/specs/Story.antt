@@ -31,7 +31,7 @@ all_but_last [] = []
 all_but_last (e ∷ []) = []
 all_but_last (e ∷ f ∷ es) = e ∷ all_but_last (f ∷ es)
 
--- a part of one frame more was written only where a write failed or took too long
+-- a part of one frame more was written only if a write failed or took too long
 abbrev pub Extra : Option Why → List (List ℕ) → List ℕ → Type 0
 Extra (Some ByFault) queue extra = IsFrontCut queue extra
 Extra (Some WriteTimeout) queue extra = IsFrontCut queue extra

@@ -152,7 +152,7 @@ fn read_wait<W: SharedService>(core: &ClientCore<W>, kept: &TurnState) -> u64 {
     }
 }
 
-/// Polls the next request; where none is left, makes one read. The event says what was done.
+/// Polls the next request; if none is left, makes one read. The event says what was done.
 fn turn_or_read<R: Wait, L: Link, C: Clock, W: SharedService>(
     rt: &R,
     alloc: Global,
@@ -175,7 +175,7 @@ fn turn_or_read<R: Wait, L: Link, C: Clock, W: SharedService>(
     }
 }
 
-/// Writes the first frame that waits; where none does, polls the next request; where none is left, makes one read. The
+/// Writes the first frame that waits; if none does, polls the next request; if none is left, makes one read. The
 /// event says what was done, and is not noted yet.
 fn own_event<R: Wait, L: Link, C: Clock, W: SharedService>(
     rt: &R,

@@ -7,7 +7,7 @@ ghost use Rattle.dns_stream_driver.specs.Closing.{why_closed, closed_by};
 use dns_service::{Output, Why};
 use dns_session::Sent;
 
-/// Why an output closes the connection, where it does.
+/// Why an output closes the connection, if it does.
 fn why_closed(out: &Output) -> Option<Why>
     ensures { result ≡ why_closed out.now }
 {
@@ -17,7 +17,7 @@ fn why_closed(out: &Output) -> Option<Why>
     }
 }
 
-/// Why the last of some outputs closes the connection, where it does.
+/// Why the last of some outputs closes the connection, if it does.
 #[tactic(auto, using(crate::proofs::Closings::closed_last, crate::proofs::Closings::closed_none))]
 pub(crate) fn closed_by(outs: &[Output]) -> Option<Why>
     ensures { result ≡ closed_by outs.now }
@@ -28,7 +28,7 @@ pub(crate) fn closed_by(outs: &[Output]) -> Option<Why>
     }
 }
 
-/// Why what a connection is sent for one event closes it, where it does.
+/// Why what a connection is sent for one event closes it, if it does.
 pub(crate) fn closed_behind(sent: &Sent) -> Option<Why>
     ensures { (client : ℕ) → result ≡ closed_by (outputs_in client sent.now) }
 {

@@ -119,8 +119,8 @@ fn serve_offer<R: Wait, L: Link, C: Clock, J: Recorder, W: SharedService>(
 }
 
 /// Serves one connection until it is closed, by a look that shows no shutdown. Then its slot is given back and the link
-/// closed. Each turn is one look and one own event: a frame that waits is written; where none waits, the next request of
-/// this round is polled; where none is left, one read is made, which ends the round.
+/// closed. Each turn is one look and one own event: a frame that waits is written; if none waits, the next request of
+/// this round is polled; if none is left, one read is made, which ends the round.
 #[tactic(auto, using(crate::proofs::Ends::looks_release, crate::proofs::Goings::cause_released))]
 pub fn serve_connection<R: Wait, L: Link, C: Clock, J: Recorder, W: SharedService>(
     rt: &R,
@@ -138,15 +138,15 @@ pub fn serve_connection<R: Wait, L: Link, C: Clock, J: Recorder, W: SharedServic
     requires book { seat.book ≡ book.now }
     requires running { look.now.closed ≡ false }
     requires can_call { W.can_call service.now }
-    // Where link and recorder tell.
+    // If link and recorder tell.
     ensures observed { Observed (L.tells link.new × J.tells journal.new) (L.tells link.old × J.tells journal.old)
         (EndsSo (serving (W.answer service.now) (W.hint service.now)) result.1 client addr look.now
         (J.noted journal.old) (J.noted journal.new) seat.known result.0.known (L.traffic link.old) (L.traffic link.new)) }
-    // Where link and recorder tell: why the connection was closed.
+    // If link and recorder tell: why the connection was closed.
     ensures shown { Observed (L.tells link.new × J.tells journal.new) (L.tells link.old × J.tells journal.old)
         (EndShown (serving (W.answer service.now) (W.hint service.now)) result.1 client addr look.now (J.noted journal.old)
         (J.noted journal.new) (L.traffic link.old) (L.traffic link.new)) }
-    // Where the clock tells too.
+    // If the clock tells too.
     ensures clock { WhereClosed result.1 (Observed (L.tells link.new × C.tells clock.new × J.tells journal.new)
         (L.tells link.old × C.tells clock.old × J.tells journal.old)
         (TimedWhole (J.noted journal.old) (J.noted journal.new) (L.traffic link.old).full_writes (L.traffic link.new).full_writes

@@ -15,8 +15,8 @@ use std::sync::Wait;
 /// How many octets one read takes at most.
 pub(crate) const ROOM: usize = 1024;
 
-/// Makes one read, and says of which kind its event is: of a Piece, an End or a Fault, or of a Tick after a wait of so many
-/// milliseconds at most, where nothing came yet.
+/// Makes one read, and says of which kind its event is: of a Piece, an End or a Fault, or of a Tick after a wait of that many
+/// milliseconds at most, if nothing came yet.
 #[tactic(auto, using(crate::proofs::Movings::moved_piece, crate::proofs::Movings::moved_again, crate::proofs::Movings::moved_end, crate::proofs::Movings::moved_none, crate::proofs::Movings::unread, crate::proofs::Blamings::blames_read, crate::proofs::Blamings::blames_tick, crate::proofs::Blamings::blames_end, crate::proofs::Blamings::blames_fault, crate::proofs::Blamings::whole_got, crate::proofs::Blamings::whole_again, crate::proofs::Blamings::whole_end, crate::proofs::Blamings::whole_fault))]
 fn read_kind<R: Wait, L: Link>(
     rt: &R,
@@ -50,7 +50,7 @@ fn read_kind<R: Wait, L: Link>(
     }
 }
 
-/// Makes one read. The event is a Piece, an End or a Fault, or a Tick after a wait, where nothing came yet.
+/// Makes one read. The event is a Piece, an End or a Fault, or a Tick after a wait, if nothing came yet.
 pub(crate) fn read_event<R: Wait, L: Link, C: Clock>(
     rt: &R,
     alloc: Global,

@@ -25,7 +25,7 @@ use dns_session::ClientCore;
 use std::alloc::Global;
 use std::sync::Wait;
 
-/// One look, and one own event where that doesn't close the connection. The answer is why it is closed, if it is.
+/// One look, and one own event if that doesn't close the connection. The answer is why it is closed, if it is.
 fn turn_once<R: Wait, L: Link, C: Clock, J: Recorder, W: SharedService>(
     rt: &R,
     alloc: Global,

@@ -46,7 +46,7 @@ count_stays : (o : Option ℕ) → IsBudget o → limited_budget o ≡ o
 count_stays None h = refl
 count_stays (Some n) h = ap (λ (m : ℕ). Some m) (stays 1 1000000 n h)
 
--- SIZE WRITE reads back, where its two words stand at i
+-- SIZE WRITE reads back, if its two words stand at i
 pub dgram_back : (d : Dgram) (ws : List (List ℕ)) (i : ℕ) → IsDgram d
     → word_at ws i ≡ number_or_none d.max_response_size → word_at ws (i + 1) ≡ decimal d.write_timeout → dgram_values ws i ≡ Ok d
 unfolding dgram_values

@@ -18,7 +18,7 @@ AllSay [] = Unit {0}
 AllSay (ws ∷ more) = AreWords ws × Says ws × AllSay more
 
 module _ {S : Type 0} (with_line : S → List (List ℕ) → Result S Reason) where
-  -- what lines of these words say, behind s
+  -- what lines of these words say, after s
   abbrev pub said_by : S → List (List (List ℕ)) → Result S Reason
   said_by s [] = Ok s
   said_by s (ws ∷ more) = with_line s ws >>= λ t. said_by t more
@@ -30,7 +30,7 @@ module _ {S : Type 0} (with_line : S → List (List ℕ) → Result S Reason) wh
       let some : (length (w ∷ ws) == 0) ≡ false = ne_eqb (length (w ∷ ws)) 0 (λ e. omega arith) in
       rw (words_joined w ws words, (joined_text (w ∷ ws) words).within, some, says) refl
 
-  -- what a first step gave, where both gave t
+  -- what a first step gave, if both gave t
   first_step : (r : Result S Reason) (f : S → Result S Reason) (t : S) → (r >>= f) ≡ Ok t → (u : S) × (r ≡ Ok u) × (f u ≡ Ok t)
   first_step (Ok u) f t h = (u, refl, h)
   first_step (Err e) f t h = cc h

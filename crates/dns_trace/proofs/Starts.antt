@@ -7,15 +7,15 @@ use Rattle.std.specs.Io.{StartsWith}
 pub starts_same : (old new : List ℕ) → new ≡ old → StartsWith new old
 starts_same old new e = starts_with_of_eq new old e
 
--- nothing was written behind what was written
+-- nothing was written after what was written
 pub starts_more : (old more mid new : List ℕ) → mid ≡ old ++ more → new ≡ mid → StartsWith new old
 starts_more old more mid new e s = starts_with_of_append new old more (s ∙ e)
 
--- something was written behind what was written
+-- something was written after what was written
 pub starts_behind : (old more mid new : List ℕ) → mid ≡ old ++ more → StartsWith new mid → StartsWith new old
 starts_behind old more mid new e h = starts_with_trans new mid old h (starts_with_of_append mid old more e)
 
--- how a text begins behind a call that had no memory
+-- how a text begins after a call that had no memory
 pub ruleset starts = (starts_same, starts_more, starts_behind)
 
 -- more was written

@@ -27,7 +27,7 @@ pub bare_text : (e : Event) (name : List ℕ) → bare_name e.kind ≡ Some name
 unfolding event_text
 bare_text e name h = ap line_of_words (sym (bare_words e.kind e name h))
 
--- words behind a space each
+-- words after a space each
 pub spaced_append : (v w : List (List ℕ)) → spaced (v ++ w) ≡ spaced v ++ spaced w
 spaced_append [] w = refl
 spaced_append (x ∷ v) w =
@@ -37,7 +37,7 @@ pub joined_spaced : (w : List ℕ) (ws : List (List ℕ)) → join_with_byte 32 
 joined_spaced w [] = search rules
 joined_spaced w (v ∷ ws) = ap (λ (t : List ℕ). w ++ 32 ∷ t) (joined_spaced v ws)
 
--- a line that was begun, with the words behind that
+-- a line that was begun, with the words after that
 pub line_ended : (text name : List ℕ) (first more : List (List ℕ))
     → ((text ++ name ++ spaced first) ++ spaced more) ++ 10 ∷ [] ≡ text ++ line_of_words (name ∷ (first ++ more))
 line_ended text name first more =

@@ -9,7 +9,7 @@ use Rattle.dns_trace.specs.declared.budget_line.Budget.{Budget}
 use Rattle.dns_trace.specs.declared.reason.Reason.{Reason}
 use Rattle.dns_trace.specs.declared.reason.Reason.TheVariants.{Count}
 
--- the configuration of a stream server with this budget for each connection, or as it is where none is said
+-- the configuration of a stream server with this budget for each connection, or as it is if none is said
 abbrev pub budgeted : Option Budget → Stream → Stream
 budgeted None s = s
 budgeted (Some b) s = record s {

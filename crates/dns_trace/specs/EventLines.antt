@@ -32,7 +32,7 @@ event_of ws kind = do
   client ← num_of (word_at ws 3)
   Ok (record { at = moment.0; secs = moment.1; client = client; kind = kind })
 
--- ADDR PORT, which stand behind the client
+-- ADDR PORT, which stand after the client
 unfoldable pub socket_addr_of : List (List ℕ) → Result SocketAddr Reason
 socket_addr_of ws = do
   ip ← addr_of (word_at ws 4)

@@ -12,7 +12,7 @@ use Rattle.dns_events.specs.declared.event.EventKind.{EventKind}
 use Rattle.dns_events.specs.declared.event.EventKind.TheVariants.{Datagram, Turn, Offer, Piece, End, Fault, Close, Write, Tick, Release, Reconfigure, Shutdown}
 use Rattle.dns_events.specs.declared.settings.Settings.{Settings}
 
--- so many octets
+-- that many octets
 abbrev pub IsOctets : ℕ → List ℕ → Type 0
 IsOctets n o = (length o ≡ n) × IsBytes o
 

@@ -1,5 +1,5 @@
 -- The names that words spell: the root's is a dot, and else each label is of letters, digits, hyphens and underscores and has a
--- dot behind it (RFC 1035, section 2.3.1; RFC 2782 for the underscore).
+-- dot after it (RFC 1035, section 2.3.1; RFC 2782 for the underscore).
 use Rattle.std.specs.Prelude.{ℕ, nat_eq, ◌||◌, ◌&&◌, Bool, List, length, slice_index, ◌-◌, Result, Ok, Err, if◌then◌else◌}
 use Rattle.std.specs.Int.{is_in_range}
 use Rattle.std.specs.List.{list_all}

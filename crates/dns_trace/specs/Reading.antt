@@ -18,12 +18,12 @@ abbrev pub Fails : {Y : Type 0} → LineError → Result Y Reason → Type 0
 Fails OutOfMemory read = Unit {0}
 Fails (Refused r) read = read ≡ Err r
 
--- a reader gave what is read, or its refusal, unless memory was wanting
+-- a reader gave what is read, or its refusal, unless memory ran out
 abbrev pub GivesLine : {X Y : Type 0} → (X → Y) → Result X LineError → Result Y Reason → Type 0
 GivesLine view (Ok x) read = read ≡ Ok (view x)
 GivesLine view (Err e) read = Fails e read
 
--- what is said with a line more, or its refusal, unless memory was wanting
+-- what is said with a line more, or its refusal, unless memory ran out
 abbrev pub TakesLine : {S : Type 0} → Result (Unit {0}) LineError → S → Result S Reason → Type 0
 TakesLine (Ok u) said read = read ≡ Ok said
 TakesLine (Err e) said read = Fails e read

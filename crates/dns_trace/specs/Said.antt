@@ -1,4 +1,4 @@
--- What lines of settings say: each value where a line says one, and the addresses that are denied in the order of their lines.
+-- What lines of settings say: each value if a line says one, and the addresses that are denied in the order of their lines.
 use Rattle.std.specs.Prelude.{ℕ, Bool, true, List, [], Option, None, unwrap_or}
 use Rattle.dns_name.specs.declared.address.IpAddr.{IpAddr}
 use Rattle.dns_events.specs.Config.{Dgram, Stream, default_dgram, default_stream}
@@ -18,7 +18,7 @@ pub record Said : Type 0 where
 abbrev pub nothing_said : Said
 nothing_said = record { strict = None; edns = None; secret = None; denied = []; dgram = None; stream = None; budget = None }
 
--- the settings: strict, with EDNS and the default configurations where nothing else is said, and with the budget that is said
+-- the settings: strict, with EDNS and the default configurations if nothing else is said, and with the budget that is said
 abbrev pub settings_said : Said → Settings
 settings_said s = record {
   strict = unwrap_or s.strict true;

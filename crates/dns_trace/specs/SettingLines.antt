@@ -1,4 +1,4 @@
--- The lines of settings, by the line's name. They stand before the first event, and once but for those that deny an address.
+-- The lines of settings, by the line's name. They stand before the first event, and once except for those that deny an address.
 use Rattle.std.specs.Prelude.{ℕ, ◌==◌, not, is_some, Bool, Option, Some, None, List, [], ◌∷◌, ◌++◌, length, Result, Ok, codes, if◌then◌else◌}
 use Rattle.std.specs.Str.{bytes_eq}
 use Rattle.dns_name.specs.declared.address.IpAddr.{IpAddr}
@@ -44,7 +44,7 @@ said_once before_events said read put = do
   value ← read
   Ok (put value)
 
--- the one word behind the line's name, read so
+-- the one word after the line's name, read so
 abbrev pub of_one_word : {A : Type 0} → List (List ℕ) → (List ℕ → Result A Reason) → Result A Reason
 of_one_word ws read = unless Count (length ws == 2) >>= λ _. read (word_at ws 1)
 

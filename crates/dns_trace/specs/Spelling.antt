@@ -22,7 +22,7 @@ abbrev pub address_word : IpAddr → List ℕ
 address_word (V4 o) = join_with_byte 46 (map decimal o)
 address_word (V6 o) = encode_lower o
 
--- words behind one space each
+-- words after one space each
 abbrev pub spaced : List (List ℕ) → List ℕ
 spaced [] = []
 spaced (w ∷ ws) = 32 ∷ w ++ spaced ws

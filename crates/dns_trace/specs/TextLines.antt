@@ -21,7 +21,7 @@ module _ {S : Type 0} (with_line : S → List (List ℕ) → Result S Reason) wh
   abbrev pub after_line : S → List ℕ → Result S Reason
   after_line s l = after_words s (is_text l) (words_of l)
 
-  -- the lines, of which the first is line n, behind those that said s
+  -- the lines, of which the first is line n, after those that said s
   abbrev pub after_lines : ℕ → S → List (List ℕ) → Result S (ℕ × Reason)
   after_lines n s [] = Ok s
   after_lines n s (l ∷ ls) = numbered n (after_line s l) >>= λ t. after_lines (n + 1) t ls
@@ -30,7 +30,7 @@ abbrev pub RefusesLine : {S : Type 0} → TraceError → Result S (ℕ × Reason
 RefusesLine OutOfMemory read = Unit {0}
 RefusesLine (Line n r) read = read ≡ Err (n, r)
 
--- what is said with lines more, or the first bad one and the reason, unless memory was wanting
+-- what is said with lines more, or the first bad one and the reason, unless memory ran out
 abbrev pub TakesLines : {S : Type 0} → Result (Unit {0}) TraceError → S → Result S (ℕ × Reason) → Type 0
 TakesLines (Ok u) said read = read ≡ Ok said
 TakesLines (Err e) said read = RefusesLine e read

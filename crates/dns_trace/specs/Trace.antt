@@ -43,7 +43,7 @@ config_lines s =
     ∷ (codes "budget" ∷ budget_words s.stream.connection_config)
     ∷ []
 
--- whether faulty queries are refused, EDNS, the secret where there is one, who is denied, and the configurations
+-- whether faulty queries are refused, EDNS, the secret if there is one, who is denied, and the configurations
 abbrev pub settings_lines : Settings → List (List (List ℕ))
 settings_lines s =
     (codes "strict" ∷ yes_no s.strict ∷ [])

@@ -43,7 +43,7 @@ whole_trace (Err e) = Err e
 unfoldable pub traced : List ℕ → Result (Settings × List Event) (ℕ × Reason)
 traced text = whole_trace (after_lines trace_line 1 nothing_traced (lines text))
 
--- a reader gave the settings and the events, or the first bad line and the reason, unless memory was wanting
+-- a reader gave the settings and the events, or the first bad line and the reason, unless memory ran out
 abbrev pub ReadsTrace : {V : Type 0} → (V → List Event) → Result (Settings × V) TraceError
     → Result (Settings × List Event) (ℕ × Reason) → Type 0
 ReadsTrace events (Ok r) read = read ≡ Ok (r.0, events r.1)

@@ -9,7 +9,7 @@ use crate::values::num;
 use crate::words::Words;
 use dns_events::StreamConfig;
 
-/// How many responses each connection may queue in one window, where that is limited, and how long a window is, in
+/// How many responses each connection may queue in one window, if that is limited, and how long a window is, in
 /// milliseconds. The numbers are those that were said; a configuration limits them to their ranges.
 #[derive(Clone, Copy)]
 pub struct Budget {
@@ -27,7 +27,7 @@ fn limited(count: Option<u64>) -> Option<u32>
     }
 }
 
-/// The configuration of a stream server with this budget for each connection, or as it is where none is said.
+/// The configuration of a stream server with this budget for each connection, or as it is if none is said.
 pub fn with_budget(budget: Option<Budget>, stream: StreamConfig) -> StreamConfig
     ensures { result ≡ budgeted budget stream }
 {

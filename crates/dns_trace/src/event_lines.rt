@@ -39,7 +39,7 @@ fn event(words: &Words, kind: EventKind) -> Result<Event, Reason>
     })
 }
 
-/// The address and the port behind the client of a line.
+/// The address and the port after the client of a line.
 #[tactic(auto, unfolding(crate::specs::EventLines::socket_addr_of))]
 fn socket_addr(alloc: Global, words: &Words) -> Result<SocketAddr, LineError>
     ensures { GivesLine (λ a. a) result (socket_addr_of words.now) }

@@ -41,7 +41,7 @@ fn ends_in_dot(word: &[u8]) -> bool
     }
 }
 
-/// A name: `.`, or labels of letters, digits, `-` and `_`, each with a dot behind it.
+/// A name: `.`, or labels of letters, digits, `-` and `_`, each with a dot after it.
 #[tactic(auto, unfolding(crate::specs::NameWords::name_word))]
 pub fn name(alloc: Global, word: &[u8]) -> Result<Name, LineError>
     ensures { GivesLine (λ n. n) result (name_word word.now) }

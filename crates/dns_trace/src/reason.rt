@@ -12,7 +12,7 @@ pub enum Reason {
     Text,
     /// The first word is that of no line.
     Word,
-    /// What stands before the first event stands behind one.
+    /// What stands before the first event stands after one.
     Order,
     /// A service line is of another kind than the first service line.
     Mix,

@@ -75,7 +75,7 @@ impl SaidSettings {
         self.secret = Some(secret);
     }
 
-    /// One address more that is denied. After want of memory what was said is as before.
+    /// One address more that is denied. After memory ran out what was said is as before.
     pub fn deny(&mut self, address: IpAddr) -> Result<(), OutOfMemory>
         ensures ok { OnOk result (self.new ≡ record self.old { denied = self.old.denied ++ address ∷ [] }) }
         ensures err { OnErr result (self.new ≡ self.old) }
@@ -105,49 +105,49 @@ impl SaidSettings {
         self.budget = Some(budget);
     }
 
-    /// Whether faulty queries are refused, where it is said.
+    /// Whether faulty queries are refused, if it is said.
     pub fn strict(&self) -> Option<bool>
         ensures { result ≡ self.now.strict }
     {
         self.strict
     }
 
-    /// Whether EDNS is on, where it is said.
+    /// Whether EDNS is on, if it is said.
     pub fn edns(&self) -> Option<bool>
         ensures { result ≡ self.now.edns }
     {
         self.edns
     }
 
-    /// The secret of cookies, where they are on.
+    /// The secret of cookies, if they are on.
     pub fn secret(&self) -> Option<[u8; 16]>
         ensures { result ≡ self.now.secret }
     {
         self.secret
     }
 
-    /// The configuration of the datagram server, where it is set.
+    /// The configuration of the datagram server, if it is set.
     pub fn dgram(&self) -> Option<DgramConfig>
         ensures { result ≡ self.now.dgram }
     {
         self.dgram
     }
 
-    /// The configuration of the stream server, where it is set.
+    /// The configuration of the stream server, if it is set.
     pub fn stream(&self) -> Option<StreamConfig>
         ensures { result ≡ self.now.stream }
     {
         self.stream
     }
 
-    /// The budget of each connection, where it is said.
+    /// The budget of each connection, if it is said.
     pub fn budget(&self) -> Option<Budget>
         ensures { result ≡ self.now.budget }
     {
         self.budget
     }
 
-    /// The settings: strict, with EDNS and the default configurations where nothing else is said.
+    /// The settings: strict, with EDNS and the default configurations if nothing else is said.
     pub fn into_settings(self) -> TraceSettings
         ensures { result ≡ settings_said self }
     {

@@ -86,7 +86,7 @@ fn read_deny(
     Ok(())
 }
 
-/// What is said with the line of this setting more. The first word is not looked at. After a refusal, and after want of memory, what
+/// What is said with the line of this setting more. The first word is not looked at. After a refusal, and after memory ran out, what
 /// was said is as before.
 #[tactic(auto, unfolding(crate::specs::SettingLines::first_dgram_line, crate::specs::SettingLines::first_stream_line, crate::specs::SettingLines::first_budget_line))]
 pub fn read_setting(

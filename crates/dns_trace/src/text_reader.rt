@@ -29,7 +29,7 @@ pub trait TakeLine: Sized + Drop {
         ensures { TakesLine result self.new (with_line self.old words.now) };
 }
 
-/// Takes one line, where it says something.
+/// Takes one line, if it says something.
 #[tactic(auto, unfolding(crate::specs::TextLines::after_words))]
 fn after<T: TakeLine>(alloc: Global, taker: &mut T, line: &[u8]) -> Result<(), LineError>
     ensures { TakesLine result taker.new (after_line T.with_line taker.old line.now) }

@@ -13,7 +13,7 @@ use std::marker::Model;
 
 const DIGITS: &[u8; 16] = b"0123456789abcdef";
 
-/// A text. What a call leaves after want of memory begins with the text before.
+/// A text. What a call leaves after memory ran out begins with the text before.
 #[derive(Drop)]
 pub struct TextWriter {
     text: Vec<u8>,
@@ -59,7 +59,7 @@ impl TextWriter {
         text
     }
 
-    /// Octets as they are, as those of a whole line. After want of memory the text is as before.
+    /// Octets as they are, as those of a whole line. After memory ran out the text is as before.
     pub fn append(&mut self, more: &[u8]) -> Result<(), OutOfMemory>
         ensures ok { OnOk result (self.new ≡ self.old ++ more.now) }
         ensures err { OnErr result (self.new ≡ self.old) }
@@ -68,7 +68,7 @@ impl TextWriter {
         Ok(())
     }
 
-    /// One octet, which is a character's. After want of memory the text is as before.
+    /// One octet, which is a character's. After memory ran out the text is as before.
     pub fn character(&mut self, character: u8) -> Result<(), OutOfMemory>
         ensures ok { OnOk result (self.new ≡ self.old ++ character ∷ []) }
         ensures err { OnErr result (self.new ≡ self.old) }
@@ -77,7 +77,7 @@ impl TextWriter {
         Ok(())
     }
 
-    /// The LF that ends a line. After want of memory the text is as before.
+    /// The LF that ends a line. After memory ran out the text is as before.
     pub fn end_line(&mut self) -> Result<(), OutOfMemory>
         ensures ok { OnOk result (self.new ≡ self.old ++ 10 ∷ []) }
         ensures err { OnErr result (self.new ≡ self.old) }
@@ -85,7 +85,7 @@ impl TextWriter {
         self.character(b'\n')
     }
 
-    /// The first word of a line, or the first part of a word. After want of memory the text is as before.
+    /// The first word of a line, or the first part of a word. After memory ran out the text is as before.
     pub fn name(&mut self, name: &str) -> Result<(), OutOfMemory>
         ensures ok { OnOk result (self.new ≡ self.old ++ name.now) }
         ensures err { OnErr result (self.new ≡ self.old) }
@@ -93,7 +93,7 @@ impl TextWriter {
         self.append(name.as_bytes())
     }
 
-    /// A word behind a space.
+    /// A word after a space.
     #[tactic(auto, using(crate::proofs::Starts::starts))]
     pub fn word(&mut self, word: &str) -> Result<(), OutOfMemory>
         ensures ok { OnOk result (self.new ≡ self.old ++ 32 ∷ word.now) }
@@ -103,7 +103,7 @@ impl TextWriter {
         self.append(word.as_bytes())
     }
 
-    /// A number behind a character, in decimal.
+    /// A number after a character, in decimal.
     #[tactic(auto, using(crate::proofs::Starts::starts))]
     pub fn number_behind(&mut self, character: u8, number: u64) -> Result<(), OutOfMemory>
         ensures ok { OnOk result (self.new ≡ self.old ++ character ∷ decimal number) }
@@ -114,7 +114,7 @@ impl TextWriter {
         self.append(buffer.format(number).as_bytes())
     }
 
-    /// A number behind a space, in decimal.
+    /// A number after a space, in decimal.
     pub fn number(&mut self, number: u64) -> Result<(), OutOfMemory>
         ensures ok { OnOk result (self.new ≡ self.old ++ 32 ∷ decimal number) }
         ensures err { OnErr result (StartsWith self.new self.old) }
@@ -122,7 +122,7 @@ impl TextWriter {
         self.number_behind(b' ', number)
     }
 
-    /// A number, or `none`, behind a space.
+    /// A number, or `none`, after a space.
     pub(crate) fn number_or_none(&mut self, number: Option<u64>) -> Result<(), OutOfMemory>
         ensures ok { OnOk result (self.new ≡ self.old ++ 32 ∷ number_or_none number) }
         ensures err { OnErr result (StartsWith self.new self.old) }
@@ -133,7 +133,7 @@ impl TextWriter {
         }
     }
 
-    /// `yes` or `no` behind a space.
+    /// `yes` or `no` after a space.
     pub(crate) fn yes_no(&mut self, yes: bool) -> Result<(), OutOfMemory>
         ensures ok { OnOk result (self.new ≡ self.old ++ 32 ∷ yes_no yes) }
         ensures err { OnErr result (StartsWith self.new self.old) }
@@ -154,7 +154,7 @@ impl TextWriter {
         Ok(())
     }
 
-    /// Hexadecimal digits behind a space.
+    /// Hexadecimal digits after a space.
     #[tactic(auto, using(crate::proofs::Starts::starts))]
     pub(crate) fn hex(&mut self, octets: &[u8]) -> Result<(), OutOfMemory>
         ensures ok { OnOk result (self.new ≡ self.old ++ 32 ∷ encode_lower octets.now) }
@@ -164,7 +164,7 @@ impl TextWriter {
         self.digits(octets)
     }
 
-    /// Hexadecimal digits, or `-` for no octet, behind a space.
+    /// Hexadecimal digits, or `-` for no octet, after a space.
     pub fn octets(&mut self, octets: &[u8]) -> Result<(), OutOfMemory>
         ensures ok { OnOk result (self.new ≡ self.old ++ 32 ∷ octets_word octets.now) }
         ensures err { OnErr result (StartsWith self.new self.old) }
@@ -175,7 +175,7 @@ impl TextWriter {
         self.hex(octets)
     }
 
-    /// A dotted quad behind a space.
+    /// A dotted quad after a space.
     #[tactic(auto, using(crate::proofs::Starts::starts))]
     fn quad(&mut self, parts: &[u8; 4]) -> Result<(), OutOfMemory>
         ensures ok { OnOk result (self.new ≡ self.old ++ 32 ∷ join_with_byte 46 (map decimal parts.now)) }
@@ -187,7 +187,7 @@ impl TextWriter {
         self.number_behind(b'.', u64::from(parts[3]))
     }
 
-    /// An address behind a space: a dotted quad, or 32 hexadecimal digits.
+    /// An address after a space: a dotted quad, or 32 hexadecimal digits.
     pub(crate) fn address(&mut self, address: &IpAddr) -> Result<(), OutOfMemory>
         ensures ok { OnOk result (self.new ≡ self.old ++ 32 ∷ address_word address.now) }
         ensures err { OnErr result (StartsWith self.new self.old) }

@@ -241,7 +241,7 @@ fn full_line(text: &mut TextWriter, event: &Event) -> Result<(), OutOfMemory>
     }
 }
 
-/// The line of an event. After want of memory the text begins with what it was.
+/// The line of an event. After memory ran out the text begins with what it was.
 #[tactic(auto, using(crate::proofs::Written::bare_text))]
 pub fn write_event(text: &mut TextWriter, event: &Event) -> Result<(), OutOfMemory>
     ensures ok { OnOk result (text.new ≡ text.old ++ event_text event.now) }
@@ -264,7 +264,7 @@ fn yes_no_line(text: &mut TextWriter, name: &str, yes: bool) -> Result<(), OutOf
     text.end_line()
 }
 
-/// The line of a secret, where there is one.
+/// The line of a secret, if there is one.
 #[tactic(auto, using(crate::proofs::Starts::starts))]
 fn secret_line(text: &mut TextWriter, secret: Option<[u8; 16]>) -> Result<(), OutOfMemory>
     ensures ok { OnOk result (text.new ≡ text.old ++ flat_map line_of_words (secret_lines secret)) }
@@ -345,7 +345,7 @@ fn config_lines(text: &mut TextWriter, settings: &TraceSettings) -> Result<(), O
     budget_line(text, &settings.stream.connection_config())
 }
 
-/// The lines of settings. After want of memory the text begins with what it was.
+/// The lines of settings. After memory ran out the text begins with what it was.
 #[tactic(auto, using(crate::proofs::Starts::starts), unfolding(crate::specs::Trace::settings_text))]
 pub fn write_settings(text: &mut TextWriter, settings: &TraceSettings) -> Result<(), OutOfMemory>
     ensures ok { OnOk result (text.new ≡ text.old ++ settings_text settings.now) }

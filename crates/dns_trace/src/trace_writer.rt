@@ -43,7 +43,7 @@ impl TraceWriter {
         }
     }
 
-    /// The line of one event more. After want of memory the text is as before. The line is made in memory that the writer keeps.
+    /// The line of one event more. After memory ran out the text is as before. The line is made in memory that the writer keeps.
     pub fn note(&mut self, _alloc: Global, event: &Event) -> Result<(), OutOfMemory>
         ensures line { OnOk result (self.new ≡ self.old ++ event_text event.now) }
         ensures noted { OnOk result ((s : TheSettings) (es : List TheEvent) → self.old ≡ trace s es

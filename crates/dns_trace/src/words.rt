@@ -34,7 +34,7 @@ impl<'a> Words<'a> {
         Ok(Words { words })
     }
 
-    /// What stands before, between and behind the separators of a word.
+    /// What stands before, between and after the separators of a word.
     pub fn parts(alloc: Global, word: &'a [u8], separator: u8) -> Result<Words<'a>, OutOfMemory>
         ensures { IfOk result (λ ws. ws ≡ slice_split (λ b. b == separator) word.now) }
     {

@@ -40,7 +40,7 @@ pub bunched_joined : (rs : List ResourceRecord) → flat (bunched rs) ≡ rs
 bunched_joined [] = refl
 bunched_joined (r ∷ rs) = bunches_joined rs (r ∷ [])
 
--- ---- the first so many
+-- ---- the first that many
 
 take_some : {A : Type 0} (xs : List A) (n : ℕ) (x : A) → slice_get xs n ≡ Some x → take (suc n) xs ≡ take n xs ++ x ∷ []
 take_some [] n x h = absurd (cc)

@@ -35,13 +35,13 @@ other_records z = filter is_no_soa z.records
 abbrev pub transfer_records : ZoneState → List ResourceRecord
 transfer_records z = map record_of (soa_records z ++ (other_records z ++ soa_records z))
 
--- those of a zone that has these records
+-- what is sent of a zone that has these records: the SOA record, the others in order, the SOA record again
 abbrev pub sent_records : List Record → List ResourceRecord
 sent_records rs = map record_of (filter (is_of 6) rs ++ (filter is_no_soa rs ++ filter (is_of 6) rs))
 
 -- ---- in bunches
 
--- how many octets the records of one reply take, where they are several
+-- how many octets the records of one reply take, if they are several
 abbrev pub bunch_limit : ℕ
 bunch_limit = 16384
 
@@ -71,7 +71,7 @@ message_item f m = if nat_le (length (wire m)) 65535 then Ok (record { response 
 abbrev pub feedback_at : ℕ → Option ServiceFeedback
 feedback_at k = if nat_eq k 0 then Some BeginTransaction else None
 
--- and ends behind the last of n replies: an answer of its own says so
+-- a transaction ends after the last of n replies: an answer of its own says so
 abbrev pub behind_replies : ℕ → ℕ → Answer
 behind_replies n k = if nat_eq k n then Ready (Some (Ok (record { response = None; feedback = Some EndTransaction }))) else Ready None
 
@@ -79,7 +79,7 @@ abbrev pub transfer_poll : List ℕ → ℕ → ℕ → Option (List ResourceRec
 transfer_poll o n k (Some b) = Ready (Some (message_item (feedback_at k) (transfer_message o b)))
 transfer_poll o n k None = behind_replies n k
 
--- what is answered to poll k, where these are the bunches
+-- what is answered to poll k, if these are the bunches
 abbrev pub transfer_of : List (List ResourceRecord) → List ℕ → ℕ → Answer
 transfer_of bs o k = transfer_poll o (length bs) k (slice_get bs k)
 
@@ -130,7 +130,7 @@ TransfersFit = (z : ZoneState) (o : List ℕ) (k : ℕ) (m : Msg) → answer_mes
 
 -- ---- which transfers fit
 
--- so many octets at most for one record, and one question: then each reply fits, with 264 octets left for an OPT record
+-- that many octets at most for one record, and one question: then each reply fits, with 264 octets left for an OPT record
 abbrev pub record_limit : ℕ
 record_limit = 65000
 
@@ -143,17 +143,17 @@ SmallTransfersFit = (z : ZoneState) (o : List ℕ) (q : Question) → (questions
 
 -- ---- as a transaction
 
--- how far a request is behind the first n answers
+-- how far a request is after the first n answers
 abbrev pub status_behind : (ℕ → Answer) → ℕ → InvokerStatus
 status_behind a zero = Normal
 status_behind a (suc n) = answer_status (a n) (status_behind a n)
 
 -- once the feedback of an answer with a reply was heard, and before the reply is queued, the request is in its transaction: so no
--- reply is dropped where the queue is full
+-- reply is dropped if the queue is full
 abbrev pub TransfersAreTransactions : Type 0
 TransfersAreTransactions = (z : ZoneState) (o : List ℕ) (k : ℕ) (m : Msg) → TransferFits (bunched (transfer_records z)) o
     → answer_message (transfer z o k) ≡ Some m → status_behind (transfer z o) (suc k) ≡ InTransaction
 
--- behind all replies, and one answer that says so, it is not
+-- after all replies, and one answer that says so, it is not
 abbrev pub TransactionsEnd : Type 0
 TransactionsEnd = (z : ZoneState) (o : List ℕ) → status_behind (transfer z o) (suc (length (bunched (transfer_records z)))) ≡ Normal

@@ -47,7 +47,7 @@ impl Packing {
         }
     }
 
-    /// Whether the bunch that is begun has room for a record of so many octets.
+    /// Whether the bunch that is begun has room for a record of that many octets.
     fn has_room(&self, added: &Record) -> bool
         requires { IsLawful added.now.rdata }
         ensures { result ≡ has_room_for self.now.current (record_of added.now) }

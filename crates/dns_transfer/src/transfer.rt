@@ -76,7 +76,7 @@ fn feedback_at(place: usize) -> Option<ServiceFeedback>
     None
 }
 
-/// What is answered behind the last of so many replies.
+/// What is answered after the last of that many replies.
 fn behind_replies(replies: usize, place: usize) -> Polled<Option<ServiceResult>>
     ensures { result ≡ behind_replies replies place }
 {
@@ -114,7 +114,7 @@ fn reply_of(
     Ok(reply.additional())
 }
 
-/// The item that is a reply, or InternalError where the reply doesn't fit a message.
+/// The item that is a reply, or InternalError if the reply doesn't fit a message.
 pub fn message_item(
     built: Result<AdditionalBuilder, PushError>,
     feedback: Option<ServiceFeedback>,
@@ -128,7 +128,7 @@ pub fn message_item(
     }
 }
 
-/// A reply with a feedback, where there is one.
+/// A reply with a feedback, if there is one.
 fn with_feedback(reply: CallResult, feedback: Option<ServiceFeedback>) -> CallResult
     requires { reply.feedback ≡ None }
     ensures { result ≡ record reply { feedback = feedback } }

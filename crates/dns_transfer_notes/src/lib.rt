@@ -18,7 +18,7 @@
 //!
 //! # What a body could still get away with
 //!
-//! No clause can say what a queue holds that threads share. What is noted is a test's matter. Where the queue is full a
+//! No clause can say what a queue holds that threads share. What is noted is a test's matter. If the queue is full a
 //! note is lost, and is counted all the same. Without memory for its zone a note is lost and not counted; and a request
 //! for a transfer fails that finds no memory as it comes.
 #![tactic(auto)]

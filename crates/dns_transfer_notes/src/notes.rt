@@ -57,7 +57,7 @@ impl TransferNotes {
         };
     }
 
-    /// Puts a note behind the others, and counts it.
+    /// Puts a note after the others, and counts it.
     pub(crate) fn put<R: Wait>(&self, rt: &R, note: TransferNote) {
         self.count(note.news);
         let _ = self.waiting.push(rt, note);

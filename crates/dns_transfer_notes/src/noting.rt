@@ -104,7 +104,7 @@ impl Asked {
         }
     }
 
-    /// Notes an item, where it is the first one.
+    /// Notes an item, if it is the first one.
     fn hear_item<R: Wait>(&mut self, rt: &R, alloc: Global, item: &ServiceResult) {
         if self.state != State::Nothing {
             return;
@@ -116,7 +116,7 @@ impl Asked {
         }
     }
 
-    /// Notes the end, where a transfer began.
+    /// Notes the end, if a transfer began.
     fn hear_end<R: Wait>(&mut self, rt: &R, alloc: Global) {
         if self.state == State::Begun {
             self.state = State::Over;

@@ -48,7 +48,7 @@ pub record Since (start : ℕ) (c c' : List ClockReading) : Type 0 where
   pub between : List ClockReading
   pub clock : c' ≡ c ++ ((start, secs) ∷ between)
 
--- the readings from c to c', of which the first and the last are at least so many milliseconds apart
+-- the readings from c to c', of which the first and the last are at least that many milliseconds apart
 pub record ReadingsSpan (millis : ℕ) (c c' : List ClockReading) : Type 0 where
   pub first : ClockReading
   pub between : List ClockReading
@@ -56,12 +56,12 @@ pub record ReadingsSpan (millis : ℕ) (c c' : List ClockReading) : Type 0 where
   pub clock : c' ≡ c ++ (first ∷ (between ++ last ∷ []))
   pub apart : millis ≤ last.0 - first.0
 
--- where the server isn't down, the time has passed
+-- if the server isn't down, the time has passed
 abbrev pub TimePassed : Bool → ℕ → List ClockReading → List ClockReading → Type 0
 TimePassed true millis c c' = Unit {0}
 TimePassed false millis c c' = ReadingsSpan millis c c'
 
--- one reading more; and where the answer is that the server isn't down, it is late enough after the first
+-- one reading more; and if the answer is that the server isn't down, it is late enough after the first
 pub record OneReading (late : ℕ → Type 0) (c c' : List ClockReading) : Type 0 where
   pub reading : ClockReading
   pub clock : c' ≡ c ++ reading ∷ []

@@ -26,7 +26,7 @@ pub record GaveBack (does : Known → Known → Type 0) (k k' : Known) : Type 0 
   pub does_so : does k done
   pub released : Called done Release (Left left) k'
 
--- What follows an admit: with a slot something is done and the slot given back; where none is free it is done without; and where
+-- What follows an admit: with a slot something is done and the slot given back; if none is free it is done without; and if
 -- the book is closed it is not done.
 abbrev pub AfterAdmit : Admission → (Known → Known → Type 0) → Type 0 → Known → Known → Type 0
 AfterAdmit (Admitted look) does idle k k' = GaveBack does k k'
@@ -45,7 +45,7 @@ pub record InSlot (does : Known → Known → Type 0) (idle : Type 0) (k k' : Kn
 abbrev pub where_known : World → Known → World
 where_known w k = record w { known = k }
 
--- datagrams were served without a count, in a slot where one is free; where the book is closed nothing was done
+-- datagrams were served without a count, in a slot if one is free; if the book is closed nothing was done
 abbrev pub DatagramsRan : Serving → DgramEnd → World → World → Type 0
 DatagramsRan answers end start now =
     InSlot (λ k k'. ServedTo answers end 0 (where_known start k) (where_known now k'))

@@ -15,14 +15,14 @@ pub trait BufSource {
     /// The octets of a new buffer of the usual size.
     ghost usual: { Self → List ℕ };
 
-    /// The octets of a new buffer with room for so many.
+    /// The octets of a new buffer with room for that many.
     ghost sized: { Self → ℕ → List ℕ };
 
     /// A new buffer of the usual size.
     fn create_buf(&self, alloc: Global) -> Result<Self::Output, OutOfMemory>
         ensures { IfOk result (λ buf. Self.Output.items buf ≡ usual self.now) };
 
-    /// A new buffer with room for so many octets.
+    /// A new buffer with room for that many octets.
     fn create_sized(&self, alloc: Global, size: usize) -> Result<Self::Output, OutOfMemory>
         ensures { IfOk result (λ buf. Self.Output.items buf ≡ sized self.now size) };
 

@@ -13,7 +13,7 @@ use dns_service::{DgramConfig, Error, StreamConfig};
 use std::marker::Model;
 use std::sync::{Arc, Wait};
 
-/// How long is waited between two looks, in milliseconds.
+/// How long it waits between two looks, in milliseconds.
 const MAX_PAUSE_MS: u64 = 100;
 
 /// A seat at a server's book, from which the server is reconfigured, shut down and looked at. In clauses it is what the seat
@@ -82,7 +82,7 @@ impl Control {
         look.closed && look.taken == 0
     }
 
-    /// Looks until a look shows that the server was shut down and no slot is taken, or until so many milliseconds have passed. It
+    /// Looks until a look shows that the server was shut down and no slot is taken, or until that many milliseconds have passed. It
     /// reads the clock at first and after each look that does not show this. Between two looks it waits, 100 ms at most.
     #[tactic(auto, using(crate::proofs::Awaiting::looks_none, crate::proofs::Awaiting::passed_told))]
     pub fn await_shutdown<R: Wait, C: Clock>(&mut self, rt: &R, clock: &mut C, millis: u64) -> bool
@@ -100,7 +100,7 @@ impl Control {
         unreachable!()
     }
 
-    // One look. Where it doesn't show the end, one reading, and the answer where the time since the first reading has passed;
+    // One look. If it doesn't show the end, one reading, and the answer if the time since the first reading has passed;
     // else it waits.
     fn look_again<R: Wait, C: Clock>(
         &mut self,

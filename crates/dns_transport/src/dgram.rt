@@ -151,11 +151,11 @@ impl<D: AsyncDgramSock + Drop, B: BufSource + Drop, W: SharedService, C: Clock +
         split_off(rt, &self.book, &mut self.seat)
     }
 
-    /// Takes a slot, serves datagrams until the server is shut down or a receive fails, and gives the slot back. Where no
-    /// slot is free it goes on without one, and where the book is closed it answers at once.
+    /// Takes a slot, serves datagrams until the server is shut down or a receive fails, and gives the slot back. If no
+    /// slot is free it goes on without one, and if the book is closed it answers at once.
     pub fn run<R: Wait, J: Recorder>(&mut self, rt: &R, alloc: Global, journal: &mut J) -> DgramEnd
         requires { W.can_call self.old.service }
-        // Where socket, clock and recorder tell.
+        // If socket, clock and recorder tell.
         ensures observed { Observed (D.tells self.new.sock × C.tells self.new.clock × J.tells journal.new)
             (D.tells self.old.sock × C.tells self.old.clock × J.tells journal.old)
             (DatagramsRan (serving (W.answer self.old.service) (W.hint self.old.service)) result
@@ -226,7 +226,7 @@ fn give_back<R: Wait>(rt: &R, book: &Book, served: (BookSeat, DgramEnd)) -> (Boo
     (seat, end)
 }
 
-/// Serves datagrams without a count, in a slot where one is free.
+/// Serves datagrams without a count, in a slot if one is free.
 fn serve_in_slot<R: Wait, D: AsyncDgramSock, C: Clock, J: Recorder, W: SharedService>(
     rt: &R,
     alloc: Global,

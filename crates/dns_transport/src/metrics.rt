@@ -52,7 +52,7 @@ impl ServerMetrics {
         }
     }
 
-    /// How many connections are served now, or 0 where they aren't counted.
+    /// How many connections are served now, or 0 if they aren't counted.
     pub fn num_connections(&self) -> usize
         ensures { self.now ≡ false → result ≡ 0 }
     {
@@ -62,21 +62,21 @@ impl ServerMetrics {
         }
     }
 
-    /// Sets the number of connections, where they are counted.
+    /// Sets the number of connections, if they are counted.
     pub fn set_num_connections(&self, new_value: usize) {
         if let Some(number) = &self.num_connections {
             number.store(new_value, Ordering::Relaxed);
         }
     }
 
-    /// Adds a connection, where they are counted.
+    /// Adds a connection, if they are counted.
     pub fn inc_num_connections(&self) {
         if let Some(number) = &self.num_connections {
             number.fetch_add(1, Ordering::Relaxed);
         }
     }
 
-    /// Takes a connection away, where they are counted.
+    /// Takes a connection away, if they are counted.
     pub fn dec_num_connections(&self) {
         if let Some(number) = &self.num_connections {
             number.fetch_sub(1, Ordering::Relaxed);

@@ -94,7 +94,7 @@ impl ServerParts {
     }
 }
 
-/// The book once more. It waits where the book has so many owners that one more has no room.
+/// The book once more. It waits if the book has so many owners that one more has no room.
 fn another<R: Wait>(rt: &R, book: &Arc<Book>) -> Arc<Book>
     ensures { arc_value result ≡ arc_value book.now }
 {

@@ -12,7 +12,7 @@ abbrev pub key_decoded : List (List ℕ) → Algorithm → Result (List ℕ) Dec
 key_decoded name a (Ok octets) = Some (record { name = name; algorithm = a; secret = octets })
 key_decoded name a (Err e) = None
 
--- the key whose secret a text writes; none where the text is no base64
+-- the key whose secret a text writes; none if the text is no base64
 abbrev pub key_written : List (List ℕ) → Algorithm → List ℕ → Option KeyParts
 key_written name a text = key_decoded name a (base64_of standard text)
 

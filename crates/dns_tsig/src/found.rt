@@ -24,7 +24,7 @@ pub(crate) enum TsigPlace {
     Absent,
     /// It is the last record, and begins at this place.
     Last(usize),
-    /// It is another record than the last, or something stands behind it.
+    /// It is another record than the last, or something stands after it.
     Misplaced,
 }
 
@@ -56,7 +56,7 @@ impl<'a> Signed<'a> {
         &self.tsig
     }
 
-    /// The octets of the message without its TSIG and its ID: up to the last count, that count, and what is behind it.
+    /// The octets of the message without its TSIG and its ID: up to the last count, that count, and what is after it.
     pub(crate) fn parts(&self) -> (&'a [u8], [u8; 2], &'a [u8])
         ensures { result.0.now ++ (result.1 ++ result.2.now) ≡ drop 2 self.now.bare }
     {
@@ -68,7 +68,7 @@ impl<'a> Signed<'a> {
         )
     }
 
-    /// Appends the message without its TSIG. Where there is no memory, some of its octets may have been appended.
+    /// Appends the message without its TSIG. If there is no memory, some of its octets may have been appended.
     pub fn take_off(&self, target: &mut Vec<u8>) -> Result<(), OutOfMemory>
         ensures octets { OnOk result (target.new.items ≡ target.old.items ++ self.now.bare) }
         ensures header { OnOk result (length target.old.items + 12 ≤ length target.new.items) }
@@ -107,7 +107,7 @@ fn tsig_place(message: &[u8]) -> Result<TsigPlace, ParseError>
     tsig_among(message, start, record_count(message))
 }
 
-/// The place behind the questions, or the refusal of the first one that can't be read (RFC 1035, section 4.1.2).
+/// The place after the questions, or the refusal of the first one that can't be read (RFC 1035, section 4.1.2).
 #[tactic(auto, using(dns_message::proofs::Coming::ending, dns_message::proofs::Coming::all_ended), unfolding(dns_message::specs::Sections::questions_of))]
 fn end_of_questions(message: &[u8]) -> Result<usize, ParseError>
     requires { 12 ≤ length message.now }
@@ -134,7 +134,7 @@ fn record_count(message: &[u8]) -> u32
         + u32::from(number_at(message, 10))
 }
 
-/// Where the TSIG stands among so many records from a place on.
+/// Where the TSIG stands among that many records from a place on.
 #[tactic(auto, using(crate::proofs::Places::among), unfolding(dns_message::specs::Standing::record_at))]
 fn tsig_among(message: &[u8], start: usize, count: u32) -> Result<TsigPlace, ParseError>
     requires { start ≤ length message.now }
@@ -154,7 +154,7 @@ fn tsig_among(message: &[u8], start: usize, count: u32) -> Result<TsigPlace, Par
     Ok(TsigPlace::Absent)
 }
 
-/// The place of a TSIG, with so many records behind it.
+/// The place of a TSIG, with that many records after it.
 fn place_of(message: &[u8], at: usize, end: usize, left: u32) -> TsigPlace
     ensures { result ≡ place_of message.now at end left }
 {

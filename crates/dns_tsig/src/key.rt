@@ -65,7 +65,7 @@ impl Key {
         })
     }
 
-    /// A key whose secret is written in base64, as key files have it: refused where the text is no base64.
+    /// A key whose secret is written in base64, as key files have it: refused if the text is no base64.
     pub fn from_base64(
         alloc: Global,
         name: Name,
@@ -95,7 +95,7 @@ impl Key {
         self.algorithm
     }
 
-    /// The empty text under the key, behind the MAC before.
+    /// The empty text under the key, after the MAC before.
     pub(crate) fn begin(&self, prior: &[u8]) -> Hmac
         requires { length prior.now < 2 ^ 16 }
         ensures { Keyed self.now.algorithm self.now.secret (prior_octets prior.now) result }

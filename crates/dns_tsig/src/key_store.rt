@@ -34,7 +34,7 @@ impl KeyStore {
         KeyStore { keys }
     }
 
-    /// The key that a TSIG names, with its place; none where no key has that name and that algorithm.
+    /// The key that a TSIG names, with its place; none if no key has that name and that algorithm.
     pub fn get(&self, tsig: &TsigRef<'_>) -> Option<(usize, &Arc<Key>)>
         ensures { option_map (λ found. (found.0, arc_value found.1.now)) result ≡ key_for self.now tsig.now }
     {

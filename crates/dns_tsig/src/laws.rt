@@ -5,7 +5,7 @@ ghost use Rattle.dns_hmac.specs.Digests.{size_of};
 ghost use Rattle.dns_name.specs.Labels.{IsName};
 ghost use Rattle.dns_message.specs.Msg.{Msg};
 ghost use Rattle.dns_message.specs.Wire.{wire};
-ghost use Rattle.dns_tsig.specs.declared.signing.Stamp.{Stamp};
+ghost use Rattle.dns_tsig.specs.declared.signing.TsigFields.{TsigFields};
 ghost use Rattle.dns_tsig.specs.Chained.{IsChain, NoneIsForged, NoneRepeats, Step, steps_of};
 ghost use Rattle.dns_tsig.specs.Digested.{digested, variables, with_id};
 ghost use Rattle.dns_tsig.specs.Found.{Signed};
@@ -20,7 +20,7 @@ ghost use Rattle.dns_tsig.specs.Verified.{Agrees, Verifies};
 
 /// What is signed under a key verifies under it, at every time within the fudge.
 pub fn signed_messages_verify()
-    ensures { (k : KeyParts) (s : Stamp) (m : Msg) (prior other after mac : List ℕ) (least now : ℕ) → IsBare m → IsName k.name
+    ensures { (k : KeyParts) (s : TsigFields) (m : Msg) (prior other after mac : List ℕ) (least now : ℕ) → IsBare m → IsName k.name
         → least ≤ size_of k.algorithm → s.time ≤ now + s.fudge → now ≤ s.time + s.fudge → Signs k prior s other (wire m) after mac
         → Verifies k least now prior (wire m) after (tsig_by k s (wire m) other mac) }
 {}
@@ -31,7 +31,7 @@ pub fn verified_messages_agree()
         → Agrees k now (digested prior s.bare s.tsig) s.tsig }
 {}
 
-/// Two messages behind one MAC, with variables as long, are digested alike only if messages and variables are the same.
+/// Two messages after one MAC, with variables as long, are digested alike only if messages and variables are the same.
 pub fn texts_tell_messages_apart()
     ensures { (prior m n : List ℕ) (s t : Tsig) → length (variables s) ≡ length (variables t)
         → digested prior m s ≡ digested prior n t → (with_id s.original_id m ≡ with_id t.original_id n) × (variables s ≡ variables t) }
@@ -39,12 +39,12 @@ pub fn texts_tell_messages_apart()
 
 /// A stream whose first message is signed, and one of each 100 in a row, is taken, whichever others are signed.
 pub fn signed_streams_are_taken()
-    ensures { (k : KeyParts) (now : ℕ) (request_mac : List ℕ) (messages : List (Option Stamp × Msg)) → IsName k.name
+    ensures { (k : KeyParts) (now : ℕ) (request_mac : List ℕ) (messages : List (Option TsigFields × Msg)) → IsName k.name
         → IsStream now false 0 messages → behind_all k (size_of k.algorithm) now (Ok (chain_behind request_mac))
         (sent k (chain_behind request_mac) messages) ≡ Ok (chain_sent k (chain_behind request_mac) messages) }
 {}
 
-/// The texts that are digested of a stream that is taken, each MAC whole, are a chain behind the MAC of the request.
+/// The texts that are digested of a stream that is taken, each MAC whole, are a chain after the MAC of the request.
 pub fn taken_streams_are_chains()
     ensures { (k : KeyParts) (now : ℕ) (request_mac : List ℕ) (messages : List (List ℕ)) (c : Chain)
         → behind_all k (size_of k.algorithm) now (Ok (chain_behind request_mac)) messages ≡ Ok c

@@ -3,8 +3,8 @@
 //! - `Key` is a name, an algorithm and a secret, made of octets or of base64. `KeyStore` gives the key that a TSIG names.
 //! - `find` finds the TSIG that ends a message. `Signed` is the message and its TSIG: `verify` says whether it is taken,
 //!   and `take_off` gives the message without it.
-//! - `sign` appends a TSIG to a message. `Stamp` has its time, its fudge and its error.
-//! - `stream_code` and `tsig_record` sign the replies of a transfer, one behind the other, while they are built.
+//! - `sign` appends a TSIG to a message. `TsigFields` has its time, its fudge and its error.
+//! - `stream_code` and `tsig_record` sign the replies of a transfer, one after the other, while they are built.
 //! - `IncomingStream` takes the messages of a transfer, of which up to 99 in a row needn't be signed.
 //! - `unsigned_refusal` and `signed_refusal` make the TSIG of a reply that says BADKEY, BADSIG, BADTIME or BADTRUNC.
 //!
@@ -23,7 +23,7 @@
 //!   is compared over all its octets.
 //! - What is signed under a key is verified under it at every time within the fudge (`signed_messages_verify`). What is
 //!   verified has a front of the MAC of the definition (`verified_messages_agree`).
-//! - Behind one MAC, messages that differ give texts that differ, if their variables are as long
+//! - After one MAC, messages that differ give texts that differ, if their variables are as long
 //!   (`texts_tell_messages_apart`).
 //! - A stream whose first message is signed, and of which no 100 in a row are unsigned, is taken, however it is cut
 //!   (`signed_streams_are_taken`). What is taken is a front of what was sent, in order, unless a MAC is forged or
@@ -59,6 +59,6 @@ pub use laws::{
     texts_tell_messages_apart, verified_messages_agree,
 };
 pub use refusal::{signed_refusal, unsigned_refusal};
-pub use signing::{Stamp, sign, sign_other, stream_code, tsig_record};
+pub use signing::{TsigFields, sign, sign_other, stream_code, tsig_record};
 pub use stream::IncomingStream;
 pub use tsig::TsigRef;

@@ -27,7 +27,7 @@ pub(crate) fn six_octets(n: u64) -> [u8; 6]
     [a, b, c, d, e, f]
 }
 
-/// A number of 16 bits, and the place behind it.
+/// A number of 16 bits, and the place after it.
 #[tactic(auto, unfolding(dns_message::specs::Read::two_at))]
 pub(crate) fn two_in(octets: &[u8], at: usize) -> Result<(u16, usize), ParseError>
     requires { at ≤ length octets.now }
@@ -38,7 +38,7 @@ pub(crate) fn two_in(octets: &[u8], at: usize) -> Result<(u16, usize), ParseErro
     Ok(n)
 }
 
-/// The number that octets begin with, and the place behind it.
+/// The number that octets begin with, and the place after it.
 fn number_of(octets: &[u8], at: usize) -> Result<(u16, usize), ParseError>
     requires { at + length octets.now < 2 ^ 64 }
     ensures value { result ≡ two_of at octets.now }
@@ -50,7 +50,7 @@ fn number_of(octets: &[u8], at: usize) -> Result<(u16, usize), ParseError>
     Ok((256 * u16::from(*a) + u16::from(*b), at + 2))
 }
 
-/// A number of 32 bits, and the place behind it.
+/// A number of 32 bits, and the place after it.
 #[tactic(auto, unfolding(dns_message::specs::Read::four_at))]
 fn four_in(octets: &[u8], at: usize) -> Result<(u32, usize), ParseError>
     requires { at ≤ length octets.now }
@@ -62,7 +62,7 @@ fn four_in(octets: &[u8], at: usize) -> Result<(u32, usize), ParseError>
     Ok((65536 * u32::from(high) + u32::from(low), at))
 }
 
-/// So many octets, and the place behind them.
+/// That many octets, and the place after them.
 #[tactic(auto, unfolding(dns_message::specs::Read::octets_at))]
 fn octets_in(octets: &[u8], n: usize, at: usize) -> Result<(&[u8], usize), ParseError>
     requires { at ≤ length octets.now }
@@ -76,7 +76,7 @@ fn octets_in(octets: &[u8], n: usize, at: usize) -> Result<(&[u8], usize), Parse
     Ok((&octets[at..at + n], at + n))
 }
 
-/// A number of 48 bits, and the place behind it.
+/// A number of 48 bits, and the place after it.
 #[tactic(auto, unfolding(crate::specs::Reading::six_at))]
 pub(crate) fn six_in(octets: &[u8], at: usize) -> Result<(u64, usize), ParseError>
     requires { at ≤ length octets.now }
@@ -89,7 +89,7 @@ pub(crate) fn six_in(octets: &[u8], at: usize) -> Result<(u64, usize), ParseErro
     Ok((4294967296 * u64::from(high) + u64::from(low), at))
 }
 
-/// Octets behind their number, and the place behind them.
+/// Octets after their number, and the place after them.
 #[tactic(auto, unfolding(crate::specs::Reading::sized_at))]
 pub(crate) fn sized_in(octets: &[u8], at: usize) -> Result<(&[u8], usize), ParseError>
     requires { at ≤ length octets.now }

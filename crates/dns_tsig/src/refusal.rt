@@ -8,7 +8,7 @@ ghost use Rattle.dns_tsig.specs.Tsig.{six, tsig_record};
 use crate::error::TsigError;
 use crate::key::{Key, algorithm_octets};
 use crate::octets::six_octets;
-use crate::signing::{Stamp, code_of, record_with};
+use crate::signing::{TsigFields, code_of, record_with};
 use crate::tsig::TsigRef;
 use dns_message::{Record, number_at};
 use dns_name::OutOfMemory;
@@ -46,7 +46,7 @@ pub fn unsigned_refusal(
 }
 
 /// The TSIG record of a reply to a request whose time or whose size of the MAC is refused: it is signed under the key,
-/// behind the request's MAC. At BADTIME it has the request's time and fudge, and the server's time as other data (RFC 8945,
+/// after the request's MAC. At BADTIME it has the request's time and fudge, and the server's time as other data (RFC 8945,
 /// section 5.2.3). `now` is the server's time in seconds, and `reply` the reply without a TSIG.
 pub fn signed_refusal(
     alloc: Global,
@@ -80,18 +80,18 @@ pub fn signed_refusal(
 }
 
 /// The time, the fudge and the error of a reply that refuses a request.
-fn refusal_stamp(error: TsigError, now: u64, fudge: u16, tsig: &TsigRef<'_>) -> Stamp
+fn refusal_stamp(error: TsigError, now: u64, fudge: u16, tsig: &TsigRef<'_>) -> TsigFields
     requires { now < 2 ^ 48 }
     ensures value { result ≡ refusal_stamp error now fudge tsig.now }
     ensures time { result.time < 2 ^ 48 }
 {
     match error {
-        TsigError::BadTime => Stamp {
+        TsigError::BadTime => TsigFields {
             time: tsig.time(),
             fudge: tsig.fudge(),
             error: error.code(),
         },
-        _ => Stamp {
+        _ => TsigFields {
             time: now,
             fudge,
             error: error.code(),
@@ -99,7 +99,7 @@ fn refusal_stamp(error: TsigError, now: u64, fudge: u16, tsig: &TsigRef<'_>) -> 
     }
 }
 
-/// The other data of a reply that refuses a request, where these six octets are the server's time.
+/// The other data of a reply that refuses a request, if these six octets are the server's time.
 fn other_octets(error: TsigError, time: &[u8; 6]) -> &[u8]
     ensures value { result.now ≡ other_octets error time.now }
     ensures short { length result.now ≤ 6 }

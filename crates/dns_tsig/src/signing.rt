@@ -22,9 +22,9 @@ use dns_message::{Record, RecordData, number_at};
 use dns_name::{Class, Name, Octets, OutOfMemory, Rtype, Ttl};
 use std::alloc::Global;
 
-/// What a TSIG says beside its key and its MAC (RFC 8945, section 4.2).
+/// What a TSIG says besides its key and its MAC (RFC 8945, section 4.2).
 #[derive(Clone, Copy)]
-pub struct Stamp {
+pub struct TsigFields {
     /// The time signed, in seconds since 1970, below 2^48.
     pub time: u64,
     /// How many seconds the clocks of both sides may differ.
@@ -40,7 +40,7 @@ pub fn sign(
     alloc: Global,
     key: &Key,
     prior: &[u8],
-    stamp: &Stamp,
+    stamp: &TsigFields,
     message: &mut Vec<u8>,
 ) -> Result<Mac, OutOfMemory>
     requires header { 12 ≤ length message.old.items }
@@ -58,7 +58,7 @@ pub fn sign_other(
     alloc: Global,
     key: &Key,
     prior: &[u8],
-    stamp: &Stamp,
+    stamp: &TsigFields,
     other: &[u8],
     message: &mut Vec<u8>,
 ) -> Result<Mac, OutOfMemory>
@@ -76,7 +76,13 @@ pub fn sign_other(
 }
 
 /// The code of a message.
-pub(crate) fn code_of(key: &Key, prior: &[u8], stamp: &Stamp, other: &[u8], message: &[u8]) -> Mac
+pub(crate) fn code_of(
+    key: &Key,
+    prior: &[u8],
+    stamp: &TsigFields,
+    other: &[u8],
+    message: &[u8],
+) -> Mac
     requires header { 12 ≤ length message.now }
     requires time { stamp.now.time < 2 ^ 48 }
     requires prior { length prior.now < 2 ^ 16 }
@@ -96,7 +102,7 @@ pub(crate) fn code_of(key: &Key, prior: &[u8], stamp: &Stamp, other: &[u8], mess
 /// The code of a message of a stream whose every message is signed. `prior` is the MAC of the message before, or that of the
 /// request. The first message, before the stream has begun, is digested with all TSIG variables, and each later one with
 /// the timers alone (RFC 8945, section 5.3.1).
-pub fn stream_code(key: &Key, prior: &[u8], begun: bool, stamp: &Stamp, message: &[u8]) -> Mac
+pub fn stream_code(key: &Key, prior: &[u8], begun: bool, stamp: &TsigFields, message: &[u8]) -> Mac
     requires header { 12 ≤ length message.now }
     requires time { stamp.now.time < 2 ^ 48 }
     requires prior { length prior.now < 2 ^ 16 }
@@ -116,7 +122,7 @@ pub fn stream_code(key: &Key, prior: &[u8], begun: bool, stamp: &Stamp, message:
 pub fn tsig_record(
     alloc: Global,
     key: &Key,
-    stamp: &Stamp,
+    stamp: &TsigFields,
     message: &[u8],
     mac: &Mac,
 ) -> Result<Record, OutOfMemory>
@@ -143,7 +149,7 @@ pub(crate) fn record_with(
     alloc: Global,
     owner: Name,
     algorithm: &[u8],
-    stamp: &Stamp,
+    stamp: &TsigFields,
     id: u16,
     mac: &[u8],
     other: &[u8],
@@ -180,7 +186,7 @@ pub(crate) fn record_with(
 fn append(
     alloc: Global,
     key: &Key,
-    stamp: &Stamp,
+    stamp: &TsigFields,
     other: &[u8],
     mac: &Mac,
     message: &mut Vec<u8>,
@@ -209,7 +215,7 @@ fn append(
 fn push_tsig(
     alloc: Global,
     key: &Key,
-    stamp: &Stamp,
+    stamp: &TsigFields,
     other: &[u8],
     mac: &Mac,
     target: &mut Vec<u8>,
@@ -241,10 +247,10 @@ fn push_owner(alloc: Global, key: &Key, size: u16, target: &mut Vec<u8>) -> Resu
     push(target, &two_octets(size))
 }
 
-/// Appends the data of a TSIG behind the algorithm's name, or some of it.
+/// Appends the data of a TSIG after the algorithm's name, or some of it.
 fn push_data(
     target: &mut Vec<u8>,
-    stamp: &Stamp,
+    stamp: &TsigFields,
     id: u16,
     mac: &[u8],
     other: &[u8],

@@ -1,4 +1,4 @@
-//! Streams of messages of which each is signed behind the one before.
+//! Streams of messages of which each is signed after the one before.
 
 ghost use Rattle.std.specs.Prelude.{◌≡◌, ◌<◌, ◌≤◌, ◌^◌, length};
 ghost use Rattle.dns_tsig.specs.Streams.{Chain, chain_behind, is_whole, signed_taken, taken, unsigned_taken};
@@ -23,7 +23,7 @@ pub struct IncomingStream {
 }
 
 impl IncomingStream {
-    /// A stream before its first message, behind the MAC of the request.
+    /// A stream before its first message, after the MAC of the request.
     pub fn new(key: &Key, request_mac: &[u8]) -> IncomingStream
         requires { length request_mac.now < 2 ^ 16 }
         ensures { Follows key.now (chain_behind request_mac.now) result }

@@ -111,7 +111,7 @@ pub(crate) fn tsig_in<'a>(key: ParsedName<'a>, octets: &'a [u8]) -> Option<TsigR
     }
 }
 
-/// The TSIG at the front of a record's data, and the place behind it.
+/// The TSIG at the front of a record's data, and the place after it.
 #[tactic(auto, unfolding(crate::specs::Reading::tsig_at))]
 fn tsig_at<'a>(key: ParsedName<'a>, octets: &'a [u8]) -> Result<(TsigRef<'a>, usize), ParseError>
     ensures { result ≡ tsig_at key.entry octets.now }

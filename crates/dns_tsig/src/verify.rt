@@ -66,7 +66,7 @@ pub(crate) fn judge(
     judge_time(least, now, tsig)
 }
 
-/// Whether a MAC may have so many octets (RFC 8945, section 5.2.2.1).
+/// Whether a MAC may have that many octets (RFC 8945, section 5.2.2.1).
 fn is_size(algorithm: Algorithm, size: usize) -> bool
     ensures { result ≡ is_size algorithm size }
 {

@@ -7,7 +7,7 @@ use Rattle.dns_message.specs.declared.question.Question.{Question}
 use Rattle.dns_routes.specs.Routes.{Route, chosen}
 use Rattle.dns_lookup.specs.declared.lookup_event.UpstreamConfig.{UpstreamConfig}
 
--- the server of a number, where they are counted again and again from the first
+-- the server of a number, if they are counted again and again from the first
 abbrev pub server_at : ℕ → List UpstreamConfig → Option UpstreamConfig
 server_at n servers = slice_get servers (n % length servers)
 

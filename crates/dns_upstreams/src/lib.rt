@@ -14,7 +14,7 @@
 //!
 //! - The server is one of those under the deepest name that ends the name of the first question, up to ASCII case
 //!   (RFC 4343). Of one name those count that were added last.
-//! - Where no name ends it, or there is no readable question, it is one of the root's.
+//! - If no name ends it, or there is no readable question, it is one of the root's.
 //! - No server is given for a response, or for fewer octets than a header has (RFC 1035, section 4.1.1).
 //! - A refused call leaves the upstreams. Each call is refused without memory alone.
 //!

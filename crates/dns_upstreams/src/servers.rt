@@ -35,7 +35,7 @@ impl Servers {
         }
     }
 
-    /// Adds a server behind the others. A refused call leaves them.
+    /// Adds a server after the others. A refused call leaves them.
     pub fn add(&mut self, server: UpstreamConfig) -> Result<(), OutOfMemory>
         ensures ok { OnOk result (self.new ≡ self.old ++ server ∷ []) }
         ensures err { OnErr result (self.new ≡ self.old) }
@@ -44,7 +44,7 @@ impl Servers {
         Ok(())
     }
 
-    /// The server of a number, where they are counted again and again from the first. Who draws the number at random asks each as
+    /// The server of a number, if they are counted again and again from the first. Who draws the number at random asks each as
     /// often as the others.
     pub fn at(&self, number: u64) -> UpstreamConfig
         ensures { Some result ≡ server_at number self.now }

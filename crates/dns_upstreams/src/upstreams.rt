@@ -31,7 +31,7 @@ impl Upstreams {
         }
     }
 
-    /// Adds the servers of a name behind the others. A refused call leaves them.
+    /// Adds the servers of a name after the others. A refused call leaves them.
     pub fn add(&mut self, alloc: Global, name: Name, servers: Servers) -> Result<(), OutOfMemory>
         ensures ok { OnOk result (self.new ≡ record self.old { routes = self.old.routes ++ (name, servers) ∷ [] }) }
         ensures err { OnErr result (self.new ≡ self.old) }
@@ -52,7 +52,7 @@ impl Upstreams {
         }
     }
 
-    /// The server that is asked for a datagram, of its servers that of a number. None where it is no query: a response, to which
+    /// The server that is asked for a datagram, of its servers that of a number. None if it is no query: a response, to which
     /// nothing is ever sent, or too short for a header.
     pub fn asked_server(
         &self,

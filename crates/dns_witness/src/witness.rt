@@ -10,7 +10,7 @@ use dns_io::{Link, LinkRead, LinkWrite};
 use std::snapshot::Snapshot;
 use std::sync::Wait;
 
-/// A link, and what its calls said. Where the link itself tells, that is what went through it since it was taken.
+/// A link, and what its calls said. If the link itself tells, that is what went through it since it was taken.
 #[derive(Drop)]
 pub struct Witness<L: Link> {
     link: L,
@@ -23,8 +23,8 @@ pub struct Witness<L: Link> {
 impl<L: Link> Witness<L> {
     ghost use Rattle.dns_witness.specs.Seen.{still};
 
-    #[tactic(auto, using(crate::proofs::Ties::tied_first))]
     /// Of a link, through which nothing went by this so far.
+    #[tactic(auto, using(crate::proofs::Ties::tied_first))]
     pub fn new(link: L) -> Witness<L>
         ensures link { (result.link ≡ link) × (result.start.value ≡ link) }
         ensures seen { result.seen.traffic ≡ still }
@@ -45,7 +45,7 @@ impl<L: Link> Witness<L> {
         link
     }
 
-    /// True of each, after any calls: where the link tells, what its calls said is what went through it since.
+    /// True of each, after any calls: if the link tells, what its calls said is what went through it since.
     pub fn is_tied(&self)
         ensures { ∥ Observed (L.tells self.now.link) (L.tells self.now.start.value)
             (TrafficSince (L.traffic self.now.start.value) (L.traffic self.now.link) self.now.seen.traffic) ∥₁ }

@@ -11,7 +11,7 @@ use dns_io::{AcceptAnswer, AsyncAccept};
 use std::snapshot::Snapshot;
 use std::sync::Wait;
 
-/// An accept object, and who came by its calls. Each link that it gives is a witness. Where the accept object itself tells, those who
+/// An accept object, and who came by its calls. Each link that it gives is a witness. If the accept object itself tells, those who
 /// came are all that came since it was taken.
 #[derive(Drop)]
 pub struct WitnessAccept<A: AsyncAccept> {
@@ -25,8 +25,8 @@ pub struct WitnessAccept<A: AsyncAccept> {
 impl<A: AsyncAccept> WitnessAccept<A> {
     ghost use Rattle.dns_witness.specs.Seen.{no_accepts};
 
-    #[tactic(auto, using(crate::proofs::AcceptTies::tied_first))]
     /// Of an accept object, by which nobody came through this so far.
+    #[tactic(auto, using(crate::proofs::AcceptTies::tied_first))]
     pub fn new(accept: A) -> WitnessAccept<A>
         ensures accept { (result.accept ≡ accept) × (result.start.value ≡ accept) }
         ensures seen { result.seen.accept_traffic ≡ no_accepts }
@@ -47,7 +47,7 @@ impl<A: AsyncAccept> WitnessAccept<A> {
         accept
     }
 
-    /// True of each, after any calls: where the accept object tells, those who were seen to come are all that came since.
+    /// True of each, after any calls: if the accept object tells, those who were seen to come are all that came since.
     pub fn is_tied(&self)
         ensures { ∥ Observed (A.tells self.now.accept) (A.tells self.now.start.value)
             (AcceptSince (A.accept_traffic self.now.start.value) (A.accept_traffic self.now.accept) self.now.seen.accept_traffic) ∥₁ }

@@ -10,7 +10,7 @@ use dns_name::OutOfMemory;
 use std::alloc::Global;
 use std::snapshot::Snapshot;
 
-/// A clock, and the readings that its calls gave. Where the clock itself tells, these are all that it gave since it was taken.
+/// A clock, and the readings that its calls gave. If the clock itself tells, these are all that it gave since it was taken.
 #[derive(Drop)]
 pub struct WitnessClock<C: Clock> {
     clock: C,
@@ -21,8 +21,8 @@ pub struct WitnessClock<C: Clock> {
 }
 
 impl<C: Clock> WitnessClock<C> {
-    #[tactic(auto, using(crate::proofs::ClockTies::tied_first))]
     /// Of a clock, which has given no reading by this so far.
+    #[tactic(auto, using(crate::proofs::ClockTies::tied_first))]
     pub fn new(clock: C) -> WitnessClock<C>
         ensures clock { (result.clock ≡ clock) × (result.start.value ≡ clock) }
         ensures seen { result.seen.readings ≡ [] }
@@ -43,7 +43,7 @@ impl<C: Clock> WitnessClock<C> {
         clock
     }
 
-    /// True of each, after any calls: where the clock tells, the readings seen are all that it gave since.
+    /// True of each, after any calls: if the clock tells, the readings seen are all that it gave since.
     pub fn is_tied(&self)
         ensures { ∥ Observed (C.tells self.now.clock) (C.tells self.now.start.value)
             (ReadingsSince (C.readings self.now.start.value) (C.readings self.now.clock) self.now.seen.readings) ∥₁ }

@@ -12,7 +12,7 @@ use dns_name::SocketAddr;
 use std::snapshot::Snapshot;
 use std::sync::Wait;
 
-/// A socket, and what its calls said. Where the socket itself tells, that is what went through it since it was taken. A datagram
+/// A socket, and what its calls said. If the socket itself tells, that is what went through it since it was taken. A datagram
 /// received is in it as the call gave it: of one that was cut, what the buffer had room for.
 #[derive(Drop)]
 pub struct WitnessSock<D: AsyncDgramSock> {
@@ -26,8 +26,8 @@ pub struct WitnessSock<D: AsyncDgramSock> {
 impl<D: AsyncDgramSock> WitnessSock<D> {
     ghost use Rattle.dns_witness.specs.Seen.{no_packets};
 
-    #[tactic(auto, using(crate::proofs::SockTies::tied_first))]
     /// Of a socket, through which nothing went by this so far.
+    #[tactic(auto, using(crate::proofs::SockTies::tied_first))]
     pub fn new(sock: D) -> WitnessSock<D>
         ensures sock { (result.sock ≡ sock) × (result.start.value ≡ sock) }
         ensures seen { result.seen.sock_traffic ≡ no_packets }
@@ -48,7 +48,7 @@ impl<D: AsyncDgramSock> WitnessSock<D> {
         sock
     }
 
-    /// True of each, after any calls: where the socket tells, what its calls said is what went through it since.
+    /// True of each, after any calls: if the socket tells, what its calls said is what went through it since.
     pub fn is_tied(&self)
         ensures { ∥ Observed (D.tells self.now.sock) (D.tells self.now.start.value)
             (SockSince (D.sock_traffic self.now.start.value) (D.sock_traffic self.now.sock) self.now.seen.sock_traffic) ∥₁ }

@@ -1,4 +1,4 @@
--- The address that a text spells, and where it spells none.
+-- The address that a text spells, and when it spells none.
 use Rattle.std.proofs.Common.{◌≡◌, ℕ, List, [], ◌∷◌, ◌++◌, Option, Some, None, length, refl, ap, sym, subst, ◌∙◌, append-nil, arith, lit≤, ne_eqb}
 use Rattle.std.specs.Prelude.{option_map}
 use Rattle.std.specs.Net.Addr.{ipv4_octets, ipv6_octets, ipv6_segments, octets_of}

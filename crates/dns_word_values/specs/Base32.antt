@@ -28,7 +28,7 @@ base32_group w at =
     five_octets (value_at w at) (value_at w (at + 1)) (value_at w (at + 2)) (value_at w (at + 3)) (value_at w (at + 4))
     (value_at w (at + 5)) (value_at w (at + 6)) (value_at w (at + 7))
 
--- so many groups
+-- that many groups
 abbrev pub base32_groups : List ℕ → ℕ → List ℕ
 base32_groups w zero = []
 base32_groups w (suc n) = base32_groups w n ++ base32_group w (8 * n)

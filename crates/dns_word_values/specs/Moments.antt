@@ -33,7 +33,7 @@ days_before month =
     else if nat_eq month 12 then 334
     else 0
 
--- the leap day of this year, where it came before the month
+-- the leap day of this year, if it came before the month
 abbrev pub leap_day : ℕ → ℕ → ℕ
 leap_day year month = if nat_lt 2 month && is_leap year then 1 else 0
 

@@ -11,7 +11,7 @@ abbrev pub ◌>>?◌ : {A B : Type 0} → Option A → (A → Option B) → Opti
 (Some x) >>? f = f x
 None >>? f = None
 
--- the number that goes on with these digits, where it stays below the top
+-- the number that goes on with these digits, if it stays below the top
 abbrev pub decimal_after : ℕ → ℕ → List ℕ → Option ℕ
 decimal_after top n [] = Some n
 decimal_after top n (c ∷ cs) = if is_ascii_digit c && nat_lt (10 * n + (c - 48)) top then decimal_after top (10 * n + (c - 48)) cs else None
@@ -33,12 +33,12 @@ unit_seconds c =
 abbrev pub below : ℕ → ℕ → Option ℕ
 below top n = if nat_lt n top then Some n else None
 
--- the number with a digit more, where any came
+-- the number with a digit more, if any came
 abbrev pub digit_more : Option ℕ → ℕ → Option ℕ
 digit_more None c = Some (c - 48)
 digit_more (Some n) c = below 4294967296 (10 * n + (c - 48))
 
--- the seconds with so many units more
+-- the seconds with that many units more
 abbrev pub units_more : ℕ → Option ℕ → ℕ → Option ℕ
 units_more total None c = None
 units_more total (Some n) c = unit_seconds c >>? λ u. below 4294967296 (total + n * u)

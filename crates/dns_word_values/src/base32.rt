@@ -61,7 +61,7 @@ fn base32_group(word: &[u8], at: usize) -> [u8; 5]
     ]
 }
 
-/// The octets of so many groups of eight digits.
+/// The octets of that many groups of eight digits.
 fn base32_groups(alloc: Global, word: &[u8], count: usize) -> Result<Vec<u8>, AllocError>
     requires { 8 * count ≤ length word.now }
     ensures { IfOk result (λ v. v.items ≡ base32_groups word.now count) }

@@ -57,7 +57,7 @@ fn days_before(month: u64) -> u64
     }
 }
 
-/// The leap day of a year, where it came before the month.
+/// The leap day of a year, if it came before the month.
 fn leap_day(year: u64, month: u64) -> u64
     ensures value { result ≡ leap_day year month }
     ensures few { result ≤ 1 }

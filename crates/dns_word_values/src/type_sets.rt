@@ -70,7 +70,7 @@ fn window_size(types: &[u16], window: u16) -> u8
     size
 }
 
-/// Appends so many octets, from a type on.
+/// Appends that many octets, from a type on.
 fn push_bits(types: &[u16], rtype: u16, size: u8, octets: &mut Vec<u8>) -> Result<(), AllocError>
     requires first { rtype ≤ 65280 }
     requires few { size ≤ 32 }
@@ -82,7 +82,7 @@ fn push_bits(types: &[u16], rtype: u16, size: u8, octets: &mut Vec<u8>) -> Resul
     Ok(())
 }
 
-/// Appends a window, where it has a type.
+/// Appends a window, if it has a type.
 fn push_window(types: &[u16], window: u16, octets: &mut Vec<u8>) -> Result<(), AllocError>
     requires { window < 256 }
     ensures { OnOk result (octets.new.items ≡ octets.old.items ++ window_octets types.now window) }
@@ -96,7 +96,7 @@ fn push_window(types: &[u16], window: u16, octets: &mut Vec<u8>) -> Result<(), A
     push_bits(types, 256 * window, size, octets)
 }
 
-/// The octets of so many windows.
+/// The octets of that many windows.
 #[tactic(auto, unfolding(crate::specs::TypeSets::windows_to))]
 fn windows(alloc: Global, types: &[u16], count: u16) -> Result<Vec<u8>, AllocError>
     requires { count ≤ 256 }

@@ -68,7 +68,7 @@ fn digit_more(number: Option<u64>, digit: u8) -> Option<u64>
     }
 }
 
-/// The seconds with so many units more.
+/// The seconds with that many units more.
 fn units_more(total: u64, number: Option<u64>, unit: u8) -> Option<u64>
     requires total { total < 4294967296 }
     requires below { IfSome number (λ n. n < 4294967296) }
@@ -149,7 +149,7 @@ pub(crate) enum Escape {
     Tens(u8),
 }
 
-/// One octet of a string more; none where it can't stand there.
+/// One octet of a string more; none if it can't stand there.
 fn unescape(escape: Escape, octets: &mut Vec<u8>, octet: u8) -> Result<Option<Escape>, AllocError>
     requires { IsEscape escape }
     ensures value { IfOk result (λ o. option_map (λ m. (m, octets.new.items)) o ≡ unescape escape octets.old.items octet) }

@@ -6,7 +6,7 @@ use Rattle.dns_host.specs.declared.host.HostEnd.TheVariants.{Done, OutOfMemory, 
 use Rattle.dns_workers.specs.declared.worker.Worker.{Worker}
 use Rattle.dns_workers.specs.declared.workers_host.WorkersHost.{WorkersHost}
 
--- a host ends by a fault where something failed, and is done where nothing did
+-- a host ends by a fault if something failed, and is done if nothing did
 abbrev pub CausedBy : HostEnd → Type 0 → Type 0 → Type 0
 CausedBy HostFault some none = some
 CausedBy Done some none = none

@@ -21,7 +21,7 @@ use Rattle.dns_host.specs.declared.host.HostEnd.TheVariants.{Done, OutOfMemory, 
 use Rattle.dns_workers.specs.declared.worker.Worker.{Worker}
 use Rattle.dns_workers.specs.declared.workers_host.WorkersHost.{WorkersHost}
 
--- what the seat that goes on knows once so many workers have a seat of their own
+-- what the seat that goes on knows once that many workers have a seat of their own
 abbrev pub left_after : ℕ → Known → Known
 left_after zero k = k
 left_after (suc n) k = first_half (left_after n k)
@@ -81,7 +81,7 @@ module _ {D C J : Type 0} where
   abbrev pub HasSeatOf : TableId → Worker D C J → Type 0
   HasSeatOf book w = MatchOption w.seat ⊥ (λ s. s.book ≡ book)
 
-  -- and the seat knows this
+  -- a worker has a seat of this book, and the seat knows this
   abbrev pub HasSeat : TableId → Known → Worker D C J → Type 0
   HasSeat book k w = MatchOption w.seat ⊥ (λ s. (s.book ≡ book) × (s.known ≡ k))
 

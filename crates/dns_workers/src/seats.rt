@@ -30,7 +30,7 @@ pub(crate) fn seat_workers<R: Wait, D, C, J>(
     seat
 }
 
-/// The graver of two ends: for want of memory, by a fault, done.
+/// The graver of two ends: because memory ran out, by a fault, done.
 fn graver_end(one: HostEnd, other: HostEnd) -> HostEnd
     ensures { result ≡ graver_end one other }
 {

@@ -83,7 +83,7 @@ impl<D, C, J> Worker<D, C, J> {
 }
 
 impl<D: AsyncDgramSock, C: Clock, J: Recorder> Worker<D, C, J> {
-    /// Serves datagrams from its seat, which it has again afterwards. Where they end by a fault or for want of memory, the book is
+    /// Serves datagrams from its seat, which it has again afterwards. If they end by a fault or because memory ran out, the book is
     /// shut down.
     fn serve<R: Wait, W: SharedService>(
         &mut self,

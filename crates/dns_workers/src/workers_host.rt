@@ -21,7 +21,7 @@ use std::thread::{Threads, join_mut};
 pub struct WorkersHost<A, D, C, P, J> {
     /// What connections come from.
     pub accept: A,
-    /// What serve datagrams. Where there are none, connections alone are served.
+    /// What serve datagrams. If there are none, connections alone are served.
     pub workers: Vec<Worker<D, C, J>>,
     /// What starts the work of each connection.
     pub spawner: P,
@@ -37,7 +37,7 @@ impl<
 where
     A::Link: Send + Drop + 'static,
 {
-    /// Accepts connections from this seat, and beside that each worker serves datagrams from its own.
+    /// Accepts connections from this seat, and besides that each worker serves datagrams from its own.
     fn both_beside<
         R: Threads + Wait + Copy + Send + Sync + 'static,
         W: SharedService + Send + Sync + 'static,
@@ -92,11 +92,11 @@ where
         accepted
     }
 
-    /// Serves connections, and beside that datagrams by each worker, from a socket of its own in a thread of its own. It ends once
+    /// Serves connections, and besides that datagrams by each worker, from a socket of its own in a thread of its own. It ends once
     /// `count` connections were accepted and `count` datagrams came to each worker, `count` not 0, or a look shows a shutdown. Each
-    /// worker has a seat of its own. One that ends by a fault or for want of memory shuts the book down, which ends all. Then
+    /// worker has a seat of its own. One that ends by a fault or because memory ran out shuts the book down, which ends all. Then
     /// `join_all` of the spawner waits for the work of connections, of which no clause says that it has ended. The seats are
-    /// joined, and the book is shut down. Where no thread can be made the workers serve one after another.
+    /// joined, and the book is shut down. If no thread can be made the workers serve one after another.
     pub fn serve<
         R: Threads + Wait + Copy + Send + Sync + 'static,
         W: SharedService + Send + Sync + 'static,

@@ -60,7 +60,7 @@ module _ (z : ZoneState) (t : ℕ) where
   unfolding followed
   followed_last name c cs h = ap (λ cs. unaliased cs (asked_records z name t)) h
 
-  -- so many aliases were given of those that a name begins, and these are the next
+  -- that many aliases were given of those that a name begins, and these are the next
   pub record OnTrail (start : List (List ℕ)) (given : ℕ) (aliases next : List ℕ) : Type 0 where
     pub name : List (List ℕ)
     pub are : AreAliases z name next

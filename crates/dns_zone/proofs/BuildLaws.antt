@@ -73,7 +73,7 @@ places_then s b rs is js =
     records_then s b (map record_of (at_places rs is)) (map record_of (at_places rs js))
     ∙ ap (with_records s b) (sym (ap (map record_of) (filter_map-append (slice_get rs) is js) ∙ map-append record_of (at_places rs is) (at_places rs js)))
 
--- records without room have none with others behind them
+-- records without room have none with others after them
 pub then_refused : (s : Section) (b new new' : Built) (xs ys : List ResourceRecord) (more : Built) (e : PushError) → Becomes new (with_records s b xs) (Err e) → with_records s b (xs ++ ys) ≡ more → Becomes new' more (Err e)
 then_refused s b new new' xs ys more ShortBuf p h =
     let g = grows s (with_records s b xs) ys in
@@ -171,7 +171,7 @@ builds_none : (new more : Built) (e : PushError) → Becomes new more (Err e) �
 builds_none new more ShortBuf h = h
 builds_none new more NoMemory h = tt
 
--- where the name servers of a cut have no room
+-- if the name servers of a cut have no room
 pub delegation_short : (o : List ℕ) (z rs : List Record) (b new : Built) (servers : List ℕ) (e : PushError) → b ≡ unlimited (zone_begun o 0 false) → rs ≡ z →
     Becomes new (with_records Authority b (map record_of (at_places rs servers))) (Err e) → Builds (unlimited (zone_message o (delegation (at_places z servers)))) (Err e)
 delegation_short o z rs b new servers e i j h =

@@ -52,7 +52,7 @@ only_one f x xs all e n =
 
 -- ---- owners with another record
 
--- a CNAME is crowded where more than one place is kept for its owner
+-- a CNAME is crowded if more than one place is kept for its owner
 pub crowded_by : (n : NamePlaces) (rs : List Record) (r : Record) (o : List ℕ) → KnowsPlaces n rs → o ≡ name_path r.owner → is_of 5 r ≡ true → is_crowded rs r ≡ nat_lt 1 (length (places_under n o 255))
 crowded_by n rs r o k e t =
     let same : (s : Record) → is_asked r.owner 255 s ≡ is_owned r.owner s = λ s. and_true (is_owned r.owner s) in

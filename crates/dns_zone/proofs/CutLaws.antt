@@ -19,12 +19,12 @@ use Rattle.dns_zone.specs.Places.{at_places, places}
 use Rattle.dns_zone.proofs.PathLaws.{begins_of, both_true, coded, coded_append, eq_true, first_true, le_true, path_at, path_begins, path_coded, second_true, true_eq, true_le, turned, turned_length}
 use Rattle.dns_zone.proofs.PlaceLaws.{at_places_of, places_agree, places_none, places_some}
 
--- ---- records at a level: NS records whose owners have so many labels and end a name
+-- ---- records at a level: NS records whose owners have that many labels and end a name
 
 abbrev pub at_level : List (List ℕ) → ℕ → Record → Bool
 at_level q k r = (ends_name q r.owner && nat_eq (length r.owner) k) && is_of 2 r
 
--- none is at a level below the apex, down to so many labels
+-- none is at a level below the apex, down to that many labels
 abbrev pub NoneUpTo : List (List ℕ) → List (List ℕ) → ℕ → List Record → Type 0
 NoneUpTo apex q k rs = (j : ℕ) → length apex < j → j ≤ k → list_any (at_level q j) rs ≡ false
 
@@ -125,7 +125,7 @@ module _ (z : ZoneState) (q : List (List ℕ)) where
       absurd (omega (arith, a, m, (begins_of q r.owner e.0).short))
   none_cut_step k r rs m n w false d ih = ih
 
-  -- where there is none at any level, there is no cut
+  -- if there is none at any level, there is no cut
   pub none_cut : (k : ℕ) (rs : List Record) → length q ≤ k → NoneUpTo z.apex q k rs → AllByRecursion (IsInZone z.apex) rs → list_any (delegates z q) rs ≡ false
   none_cut k [] m n w = refl
   none_cut k (r ∷ rs) m n w = none_cut_step k r rs m n w.0 (delegates z q r) refl (none_cut k rs m (none_rest k r rs n) w.1)
@@ -238,7 +238,7 @@ pub path_length : (ls : List (List ℕ)) → length (name_path ls) + 1 ≡ lengt
 unfolding name_path
 path_length ls = omega (arith, spelt ls, length-reverse (marked (folded ls)))
 
--- a place on the path of a name, behind so many labels from its end on
+-- a place on the path of a name, after that many labels from its end on
 pub record IsAlong (z : ZoneState) (q : List (List ℕ)) (o : List ℕ) (end : ℕ) : Type 0 where
   pub labels : ℕ
   pub few : labels ≤ length q
@@ -262,7 +262,7 @@ module _ (z : ZoneState) (q : List (List ℕ)) (o : List ℕ) (end : ℕ) (p : o
   coded_rest : o ≡ coded (take a.labels (turned q)) ++ coded (drop a.labels (turned q))
   coded_rest = p ∙ (path_coded q ∙ (ap coded (sym (take-append-drop a.labels (turned q))) ∙ coded_append (take a.labels (turned q)) (drop a.labels (turned q))))
 
-  -- where octets are left, a label is
+  -- if octets are left, a label is
   pub label_left : end < length o → a.labels < length q
   label_left h = by_order (nat_le (length q) a.labels) refl
     where
@@ -305,7 +305,7 @@ module _ (z : ZoneState) (q : List (List ℕ)) (o : List ℕ) (end : ℕ) (p : o
   pub next : end < length o → Next
   next h = next_at (label_left h)
 
-  -- where no octets are left, no label is
+  -- if no octets are left, no label is
   pub all_along : length o ≤ end → length q ≤ a.labels
   all_along h = by_order (nat_le (length q) a.labels) refl
     where

@@ -1,4 +1,4 @@
--- Which cause a list is refused for, and what follows where it is for none.
+-- Which cause a list is refused for, and what follows if it is for none.
 use Rattle.std.proofs.Common.{◌≡◌, ℕ, zero, suc, ◌+◌, Bool, true, false, List, [], ◌∷◌, ◌++◌, length, drop, cond, nat_eq, Option, Some, None, Ok, Err, refl, ap, sym, ◌∙◌}
 use Rattle.std.specs.Prelude.{not, if◌then◌else◌, option_map}
 use Rattle.std.specs.List.{AllByRecursion, filter, position, position_from}

@@ -57,7 +57,7 @@ any_tied : (i : ℕ) (ks : List ℕ) → list_any (eq_by_cmp nat_cmp i) ks ≡ l
 any_tied i [] = refl
 any_tied i (k ∷ ks) = ap (λ b. b || list_any (eq_by_cmp nat_cmp i) ks) (sym (unsigned_ties i k)) ∙ ap (λ b. nat_eq i k || b) (any_tied i ks)
 
--- places in order are those of the records that pass a test, where they are as a set
+-- places in order are those of the records that pass a test, if they are as a set
 pub in_order : (s : BTreeSet ℕ) (p : Record → Bool) (rs : List Record) → IsOrdered nat_cmp s → ((i : ℕ) → contains nat_cmp s i ≡ passes p (slice_get rs i)) → s.keys ≡ places p rs
 in_order s p rs o h =
     btree_set_from_contains nat_cmp_total s (record { keys = places p rs }) o (places_ascend p rs) (λ i. h i ∙ (sym (is_place p rs i) ∙ sym (any_tied i (places p rs)))) exact_unsigned

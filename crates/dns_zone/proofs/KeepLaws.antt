@@ -64,7 +64,7 @@ found_key test (e ∷ es) h = key_by test e.0 e.1 (lookup test es) (test e.0) re
 
 -- ---- a place more
 
--- what follows where a call succeeds
+-- what follows if a call succeeds
 pub on_ok : {A B : Type 0} (r : Result ⊤ OutOfMemory) → OnOk r A → (A → B) → OnOk r B
 on_ok (Ok x) a f = f a
 on_ok (Err e) a f = tt
@@ -170,7 +170,7 @@ abbrev pub IsFrom : NamePlaces → Vec ℕ Global → List (Vec ℕ Global × Ki
 IsFrom n o range = IsRangeOf (λ (a b : Vec ℕ Global). slice_cmp nat_cmp a.items b.items) (Included o) Unbounded n.kinds range
 
 module _ (n : NamePlaces) (rs : List Record) (o : Vec ℕ Global) (k : KnowsPlaces n rs) where
-  -- a key of the map, where a record's path begins with octets
+  -- a key of the map, if a record's path begins with octets
   key_behind : list_any (begins_at o.items) rs ≡ true → (q : Vec ℕ Global) × (starts_with ◌==◌ q.items o.items ≡ true) × (is_some (kinds_under n q.items) ≡ true)
   key_behind h =
       let r = passing (begins_at o.items) rs h in

@@ -35,7 +35,7 @@ begins_between (x ∷ p) (y ∷ m) (z ∷ k) g h b =
     let e : nat_eq x y ≡ true = grind (arith, nat_tests, t.0) in
     ap (λ c. c && bytes_eq p (take (length p) m)) e ∙ begins_between p m k t.1 t.2 s.1
 
--- octets aren't behind those that begin with them
+-- octets aren't after those that begin with them
 pub begins_behind : (p k : List ℕ) → bytes_eq p (take (length p) k) ≡ true → is_gt (slice_cmp nat_cmp p k) ≡ false
 begins_behind [] [] b = refl
 begins_behind [] (z ∷ k) b = refl

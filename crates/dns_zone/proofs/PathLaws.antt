@@ -46,7 +46,7 @@ true_le a b h = grind (arith, nat_tests)
 abbrev pub turned : List (List ℕ) → List (List ℕ)
 turned ls = reverse (folded ls)
 
--- each behind its length, from its end
+-- each after its length, from its end
 abbrev pub coded : List (List ℕ) → List ℕ
 coded [] = []
 coded (l ∷ ls) = length l ∷ (reverse l ++ coded ls)
@@ -78,7 +78,7 @@ split_alike {A} a b s t n e =
     let r : s ≡ t = sym (drop-append_seam a s) ∙ (ap (drop (length a)) e ∙ (ap (λ k. drop k (b ++ t)) n ∙ drop-append_seam b t)) in
     (l, r)
 
--- a label and what is behind it
+-- a label and what is after it
 label_alike : (x y : List ℕ) (s t : List ℕ) → length x ∷ (reverse x ++ s) ≡ length y ∷ (reverse y ++ t) → (x ≡ y) × (s ≡ t)
 label_alike x y s t e =
     let n : length x ≡ length y = cc in
@@ -131,7 +131,7 @@ turned_end q m h =
     let n : length (folded q) ≡ length q = length-map q (map to_ascii_lowercase) in
     turned_first (folded q) m (omega arith) ∙ (ap (λ k. reverse (drop (k - m) (folded q))) n ∙ ap reverse (drop-map (map to_ascii_lowercase) (length q - m) q))
 
--- a name ends with another exactly where its turned labels begin with the other's
+-- a name ends with another exactly if its turned labels begin with the other's
 pub record Begins (q o : List (List ℕ)) : Type 0 where
   pub short : length o ≤ length q
   pub first : take (length o) (turned q) ≡ turned o
@@ -148,7 +148,7 @@ ends_of q o b =
     both_true (nat_le (length o) (length q)) (same_name d o) (le_true (length o) (length q) b.short)
     ((same_name_Decides d o).1 (turn_back d o (sym (turned_end q (length o) b.short) ∙ b.first)))
 
--- the path of a name begins with so many labels exactly where these are those of a name
+-- the path of a name begins with that many labels exactly if these are those of a name
 pub path_at : (q o : List (List ℕ)) (k : ℕ) → k ≤ length q → bytes_eq (coded (take k (turned q))) (name_path o) ≡ (ends_name q o && nat_eq (length o) k)
 path_at q o k h =
     let l : length (turned q) ≡ length q = turned_length q in
@@ -164,7 +164,7 @@ path_at q o k h =
     in
     both_ways _ _ there back
 
--- paths are the same exactly where names are
+-- paths are the same exactly if names are
 pub path_same : (a b : List (List ℕ)) → bytes_eq (name_path a) (name_path b) ≡ same_name a b
 path_same a b =
     let there : bytes_eq (name_path a) (name_path b) ≡ true → same_name a b ≡ true = λ t.
@@ -175,7 +175,7 @@ path_same a b =
     in
     both_ways _ _ there back
 
--- the path of a name begins with that of another exactly where the name ends with the other
+-- the path of a name begins with that of another exactly if the name ends with the other
 pub path_begins : (a b : List (List ℕ)) → starts_with ◌==◌ (name_path a) (name_path b) ≡ ends_name a b
 path_begins a b =
     let n = length (name_path b) in

@@ -68,7 +68,7 @@ any_by_length : (p : Record → Bool) (rs : List Record) (k : ℕ) → 0 < lengt
 any_by_length p [] k h = absurd (omega arith)
 any_by_length p (r ∷ rs) k h = some_step (p r) (list_any p rs) k (places_from p (suc k) rs) (any_by_length p rs (suc k)) h
 
--- there are places where a record passes
+-- there are places if a record passes
 pub places_some : (p : Record → Bool) (rs : List Record) → 0 < length (places p rs) → list_any p rs ≡ true
 places_some p rs h = any_by_length p rs 0 h
 
@@ -80,7 +80,7 @@ none_by : (p : Record → Bool) (rs : List Record) (k : ℕ) → places_from p k
 none_by p [] k h = refl
 none_by p (r ∷ rs) k h = none_step (p r) (list_any p rs) k (places_from p (suc k) rs) (none_by p rs (suc k)) h
 
--- and none where none does
+-- and none if none does
 pub places_none : (p : Record → Bool) (rs : List Record) → places p rs ≡ [] → list_any p rs ≡ false
 places_none p rs h = none_by p rs 0 h
 
@@ -123,7 +123,7 @@ at_or_behind p (r ∷ rs) k (suc i) n e =
       | false ↦ ih
     ]
 
--- a place is one of them exactly where the record at it passes
+-- a place is one of them exactly if the record at it passes
 pub is_place : (p : Record → Bool) (rs : List Record) (i : ℕ) → list_any (nat_eq i) (places p rs) ≡ passes p (slice_get rs i)
 is_place p rs i = at_or_behind p rs 0 i i (omega arith)
 
@@ -195,7 +195,7 @@ more_from p (x ∷ rs) r k =
 pub places_more : (p : Record → Bool) (rs : List Record) (r : Record) → places p (rs ++ r ∷ []) ≡ places p rs ++ (if p r then length rs ∷ [] else [])
 places_more p rs r = more_from p rs r 0 ∙ ap (λ n. places p rs ++ (if p r then n ∷ [] else [])) (omega arith)
 
--- where a record passes there is a place
+-- if a record passes there is a place
 pub some_places : (p : Record → Bool) (rs : List Record) → list_any p rs ≡ true → 0 < length (places p rs)
 some_places p rs h = by_order (nat_eq (length (places p rs)) 0) refl
   where

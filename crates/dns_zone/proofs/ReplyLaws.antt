@@ -69,7 +69,7 @@ module _ (z : ZoneState) (q : Question) where
   code_of false false false true h = absurd (cc)
   code_of false false false false h = (refl, refl)
 
-  -- exactly where it is at or below no cut, and neither it nor a name below it owns a record
+  -- exactly if it is at or below no cut, and neither it nor a name below it owns a record
   pub denied_exactly : ((zone_reply z q).rcode ≡ 3) ↔ ((is_cut_off z q.qname ≡ false) × (exists z q.qname ≡ false))
   denied_exactly =
       let a = is_cut_off z q.qname in

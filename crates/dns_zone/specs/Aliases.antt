@@ -9,7 +9,7 @@ use Rattle.dns_zone.specs.Cuts.{is_cut_off}
 abbrev pub is_within : ZoneState → List (List ℕ) → Bool
 is_within z name = ends_name name z.apex && not (is_cut_off z name)
 
--- what go gives of a target, where the zone is asked on for it
+-- what go gives of a target, if the zone is asked on for it
 abbrev pub gone_on : ZoneState → (List (List ℕ) → List Record) → Option (List (List ℕ)) → List Record
 gone_on z go None = []
 gone_on z go (Some name) = if is_within z name then go name else []
@@ -19,7 +19,7 @@ abbrev pub aliased : ZoneState → (List (List ℕ) → List Record) → List Re
 aliased z go [] found = found
 aliased z go (c ∷ cs) found = c ∷ gone_on z go (target c.rdata)
 
--- where no further CNAME is given: the records that were found, of a name without one
+-- if no further CNAME is given: the records that were found, of a name without one
 abbrev pub unaliased : List Record → List Record → List Record
 unaliased [] found = found
 unaliased (c ∷ cs) found = []

@@ -1,4 +1,4 @@
--- What is looked for among the records of a list, and what the checks of a list answer.
+-- The defects of a list of records, and what the checks of a list answer.
 use Rattle.std.specs.Prelude.{ℕ, ⊤, Bool, List, [], ◌∷◌, length, Option, Some, None, option_map, Result, Ok, Err}
 use Rattle.std.specs.List.{filter, position}
 use Rattle.dns_message.specs.declared.record.Record.{Record}

@@ -14,7 +14,7 @@ said_of (SoaPlace i) = codes "is an SOA record below the apex"
 said_of (Cname i) = codes "is a CNAME record beside another record"
 said_of NoMemory = codes "out of memory"
 
--- behind the number of a record
+-- after the number of a record
 abbrev pub record_text : ℕ → List ℕ → List ℕ
 record_text i said = codes "record " ++ (decimal i ++ 32 ∷ said)
 

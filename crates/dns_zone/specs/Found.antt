@@ -7,7 +7,7 @@ use Rattle.dns_zone.specs.Owned.{ZoneState, is_asked, target}
 use Rattle.dns_zone.specs.Aliases.{followed, gone_on}
 use Rattle.dns_zone.specs.Places.{at_places, places}
 
--- the name that the data of a record is, where there is one
+-- the name that the data of a record is, if there is one
 abbrev pub target_of : Option Record → Option (List (List ℕ))
 target_of None = None
 target_of (Some r) = target r.rdata
@@ -17,7 +17,7 @@ pub record AreAliases (z : ZoneState) (name : List (List ℕ)) (is : List ℕ) :
   pub places : is ≡ places (is_asked name 5) z.records
   pub some : 0 < length is
 
--- what an alias with a target leads to, where a type is asked for, however many CNAMEs may still be given: further aliases,
+-- what an alias with a target leads to, if a type is asked for, however many CNAMEs may still be given: further aliases,
 -- records, or nothing
 abbrev pub TargetLeadsTo : ZoneState → ℕ → Option (List (List ℕ)) → Lead → Type 0
 TargetLeadsTo z t target (Alias next) = (name : List (List ℕ)) × AreAliases z name next.now

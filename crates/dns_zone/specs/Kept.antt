@@ -1,4 +1,5 @@
--- What a zone keeps beside its records: their places, by the path of the owner and by the type, and the SOA record of negative answers.
+-- What a zone keeps besides its records: their places, by the path of the owner and by the type, and the SOA record of negative
+-- answers.
 use Rattle.std.specs.Prelude.{ℕ, ◌≡◌, Bool, ◌||◌, ◌&&◌, List, [], ◌∷◌, ◌++◌, ◌==◌, if◌then◌else◌, nat_eq, is_some, Option, Some, None, map, IsTrue}
 use Rattle.std.specs.List.{AllByRecursion, filter, list_any, starts_with}
 use Rattle.std.specs.Str.{bytes_eq}
@@ -30,7 +31,7 @@ places_under n o t = places_in t (kinds_under n o)
 abbrev pub is_at : List ℕ → Record → Bool
 is_at o r = bytes_eq o (name_path r.owner)
 
--- and its type is asked for
+-- whether octets are the path of a record's owner, and its type is asked for
 abbrev pub stands_under : List ℕ → ℕ → Record → Bool
 stands_under o t r = is_at o r && (nat_eq t 255 || is_of t r)
 

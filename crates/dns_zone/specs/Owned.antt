@@ -43,7 +43,7 @@ is_asked name t r = is_owned name r && (nat_eq t 255 || is_of t r)
 abbrev pub asked_records : ZoneState → List (List ℕ) → ℕ → List Record
 asked_records z name t = filter (is_asked name t) z.records
 
--- the name that data is, where it is one
+-- the name that data is, if it is one
 abbrev pub target : RecordData → Option (List (List ℕ))
 target (Named t n) = Some n
 target _ = None

@@ -7,7 +7,7 @@ use Rattle.std.specs.declared.vec.Vec.{Vec}
 use Rattle.std.specs.declared.alloc.Global.{Global}
 use Rattle.dns_message.specs.declared.record.Record.{Record}
 
--- the places of the records that pass a test, where the list begins at a place
+-- the places of the records that pass a test, if the list begins at a place
 abbrev pub places_from : (Record → Bool) → ℕ → List Record → List ℕ
 places_from p i [] = []
 places_from p i (r ∷ rs) = if p r then i ∷ places_from p (suc i) rs else places_from p (suc i) rs

@@ -46,7 +46,7 @@ denied z rcode = record {
   additional = [];
 }
 
--- whether an alias is followed for a type: not for CNAME itself, nor where any records are asked for
+-- whether an alias is followed for a type: not for CNAME itself, nor if any records are asked for
 abbrev pub follows : ℕ → Bool
 follows t = not (nat_eq t 5 || nat_eq t 255)
 

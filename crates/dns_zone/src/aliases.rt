@@ -32,7 +32,7 @@ pub(crate) enum Lead<'a> {
     Nowhere,
 }
 
-/// The name that the data of a record is, where it is one.
+/// The name that the data of a record is, if it is one.
 fn record_target(resource: &Record) -> Option<&Name>
     ensures { option_copied result ≡ target resource.now.rdata }
 {
@@ -42,7 +42,7 @@ fn record_target(resource: &Record) -> Option<&Name>
     }
 }
 
-/// Places, and others behind them.
+/// Places, and others after them.
 fn extended(places: Vec<usize>, others: &[usize]) -> Result<Vec<usize>, OutOfMemory>
     ensures { IfOk result (λ v. v.items ≡ places.items ++ others.now) }
 {
@@ -54,7 +54,7 @@ fn extended(places: Vec<usize>, others: &[usize]) -> Result<Vec<usize>, OutOfMem
 impl Zone {
     ghost use Rattle.dns_zone.specs.Found.{AreAliases, TargetLeadsTo, target_of};
 
-    /// The name that the data of the record at a place is, where it is one.
+    /// The name that the data of the record at a place is, if it is one.
     pub(crate) fn target(&self, place: usize) -> Option<&Name>
         ensures { option_copied result ≡ target_of (slice_get self.now.records place) }
     {

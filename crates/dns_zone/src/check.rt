@@ -33,7 +33,7 @@ pub(crate) enum ZoneDefect {
 }
 
 impl ZoneDefect {
-    /// Whether a record has it, where the apex is this name.
+    /// Whether a record has it, if the apex is this name.
     fn is_in(self, apex: &Name, resource: &Record) -> bool
         ensures { result ≡ has_defect self apex.now resource.now }
     {

@@ -14,7 +14,7 @@ use crate::kinds::{Kinds, find_kind};
 use crate::zone::Zone;
 use dns_base::Rtype;
 
-/// The places of a type among those of a name, where there are any.
+/// The places of a type among those of a name, if there are any.
 pub(crate) fn places_in(kinds: Option<&Kinds>, rtype: u16) -> Option<&[usize]>
     ensures { MatchOption result (places_in rtype (option_copied kinds.entry) ≡ [])
         (λ s. (s.now ≡ places_in rtype (option_copied kinds.entry)) × (0 < length s.now)) }
@@ -26,7 +26,7 @@ pub(crate) fn places_in(kinds: Option<&Kinds>, rtype: u16) -> Option<&[usize]>
 }
 
 impl Zone {
-    /// The places of the NS records of the cut for the name of a path, where there is one. The names below the apex are
+    /// The places of the NS records of the cut for the name of a path, if there is one. The names below the apex are
     /// looked up from the shortest on.
     pub(crate) fn cut(&self, path: &[u8]) -> Option<&[usize]>
         requires { IsSought self.now.apex path.now }
@@ -44,7 +44,7 @@ impl Zone {
         None
     }
 
-    /// The places of the records of a type that the name of a path owns, where there are any.
+    /// The places of the records of a type that the name of a path owns, if there are any.
     pub(crate) fn owned(&self, path: &[u8], rtype: u16) -> Option<&[usize]>
         ensures { (name : List (List ℕ)) → path.now ≡ name_path name
             → MatchOption result (list_any (is_asked name rtype) self.now.records ≡ false)

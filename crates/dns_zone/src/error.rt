@@ -18,7 +18,7 @@ pub enum ZoneError {
     Opt { index: usize },
     /// How many SOA records there are; a zone has one (RFC 1035, section 5.2).
     Soa { count: usize },
-    /// The SOA record, where its owner isn't the apex.
+    /// The SOA record, if its owner isn't the apex.
     SoaPlace { index: usize },
     /// The first CNAME record whose owner has another record (RFC 1034, section 3.6.2).
     Cname { index: usize },
@@ -39,7 +39,7 @@ impl ZoneError {
         }
     }
 
-    /// What its text says behind the number, where it has one.
+    /// What its text says after the number, if it has one.
     fn as_str(self) -> &'static str
         ensures { result.now ≡ said_of self }
     {

@@ -15,7 +15,7 @@ pub(crate) type Kinds = BTreeMap<u16, Vec<usize>>;
 /// The type that asks for any (RFC 1035, section 3.2.3).
 pub(crate) const ANY: u16 = 255;
 
-/// Keeps a place behind those of a type.
+/// Keeps a place after those of a type.
 fn put_behind(kinds: &mut Kinds, rtype: u16, place: usize) -> Result<(), OutOfMemory>
     requires { IsSome (get nat_cmp kinds.old rtype) }
     ensures { OnOk result ((t : ℕ) → kind_places t kinds.new
@@ -80,7 +80,7 @@ pub(crate) fn first_kinds(alloc: Global, rtype: u16, place: usize) -> Result<Kin
     Ok(kinds)
 }
 
-/// The places that are kept under a number, where there are any.
+/// The places that are kept under a number, if there are any.
 pub(crate) fn find_kind(kinds: &Kinds, rtype: u16) -> Option<&[usize]>
     ensures { MatchOption result (kind_places rtype kinds.now ≡ []) (λ s. (s.now ≡ kind_places rtype kinds.now) × (0 < length s.now)) }
 {
@@ -90,7 +90,7 @@ pub(crate) fn find_kind(kinds: &Kinds, rtype: u16) -> Option<&[usize]>
     }
 }
 
-/// Places, where there are any.
+/// Places, if there are any.
 fn filled(places: &[usize]) -> Option<&[usize]>
     ensures { MatchOption result (places.now ≡ []) (λ s. (s.now ≡ places.now) × (0 < length s.now)) }
 {

@@ -74,7 +74,7 @@ impl NamePlaces {
         self.kinds.get(path)
     }
 
-    /// The places that are kept under a path and a type, where there are any.
+    /// The places that are kept under a path and a type, if there are any.
     pub(crate) fn find(&self, path: &[u8], rtype: u16) -> Option<&[usize]>
         ensures { MatchOption result (places_under self.now path.now rtype ≡ [])
             (λ s. (s.now ≡ places_under self.now path.now rtype) × (0 < length s.now)) }

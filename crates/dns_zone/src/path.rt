@@ -19,7 +19,7 @@ fn push_marked(label: &[u8], octets: &mut Vec<u8>) -> Result<(), OutOfMemory>
     Ok(())
 }
 
-/// The labels of a name in lower case, each before its length, in memory for so many octets at first.
+/// The labels of a name in lower case, each before its length, in memory for that many octets at first.
 fn marked_octets(alloc: Global, name: Labels<'_>, capacity: usize) -> Result<Vec<u8>, OutOfMemory>
     requires { AreLabels name }
     ensures { IfOk result (λ v. v.items ≡ marked (folded name.entry)) }
@@ -32,7 +32,7 @@ fn marked_octets(alloc: Global, name: Labels<'_>, capacity: usize) -> Result<Vec
     Ok(octets)
 }
 
-/// The path of a name, in memory for so many octets at first.
+/// The path of a name, in memory for that many octets at first.
 #[tactic(auto, unfolding(crate::specs::Paths::name_path))]
 pub(crate) fn path_of(
     alloc: Global,

@@ -59,7 +59,7 @@ impl TakesRecords for AdditionalBuilder {
     }
 }
 
-/// Adds the record at a place, where there is one.
+/// Adds the record at a place, if there is one.
 fn add_place<B: TakesRecords>(
     builder: &mut B,
     alloc: Global,

@@ -1,9 +1,9 @@
-//! The check of a secondary's copy: the primary is asked for its SOA record, and for the zone where that is newer.
+//! The check of a secondary's copy: the primary is asked for its SOA record, and for the zone if that is newer.
 
 use crate::primary::{receive, send};
 use anyhow::bail;
 use dns_generation::Generation;
-use dns_incoming::{IncomingTransfer, TransferFault, TransferStatus};
+use dns_incoming::{IncomingTransfer, TransferDefect, TransferStatus};
 use dns_message::{Message, Record};
 use dns_name::Name;
 use dns_secondary::{SoaTimers, ZoneCopy, soa_query, transfer_query};
@@ -31,7 +31,7 @@ pub(crate) struct Check {
     pub(crate) apex: Name,
     pub(crate) stream: TcpStream,
     pub(crate) copy: ZoneCopy,
-    /// Set where the check is to be given up.
+    /// Set if the check is to be given up.
     pub(crate) stop: Arc<AtomicBool>,
 }
 
@@ -45,16 +45,16 @@ pub(crate) enum Checked {
 }
 
 /// Why what came is no transfer, in words.
-fn fault_text(fault: TransferFault) -> &'static str {
+fn fault_text(fault: TransferDefect) -> &'static str {
     match fault {
-        TransferFault::Identifier => "another message came than the response",
-        TransferFault::Code => "the response has a response code other than NOERROR",
-        TransferFault::Unreadable => "the response is unreadable",
-        TransferFault::NoSoa => "the first record is no SOA record of the zone",
-        TransferFault::OtherSoa => "another SOA record came",
-        TransferFault::Behind => "a record came behind the end",
-        TransferFault::Outside => "a record outside the zone came",
-        TransferFault::TooMany => "too many records came",
+        TransferDefect::Identifier => "another message came than the response",
+        TransferDefect::Code => "the response has a response code other than NOERROR",
+        TransferDefect::Unreadable => "the response is unreadable",
+        TransferDefect::NoSoa => "the first record is no SOA record of the zone",
+        TransferDefect::OtherSoa => "another SOA record came",
+        TransferDefect::Behind => "a record came behind the end",
+        TransferDefect::Outside => "a record outside the zone came",
+        TransferDefect::TooMany => "too many records came",
     }
 }
 
@@ -91,7 +91,7 @@ fn ask_soa<S: Read + Write>(
     }
 }
 
-/// What the first of some records says of copies, where that is an SOA record.
+/// What the first of some records says of copies, if that is an SOA record.
 fn first_timers(records: &[Record]) -> Option<SoaTimers> {
     match records.get(0) {
         Some(record) => SoaTimers::of(&record.rdata),
@@ -168,7 +168,7 @@ pub(crate) fn run(alloc: Global, check: Check) -> Result<Checked, String> {
     }
 }
 
-/// A fault as text; nothing where there is no memory.
+/// A fault as text; nothing if there is no memory.
 fn text_of(alloc: Global, fault: &anyhow::Error) -> String {
     match format!(in alloc; "{fault:#}") {
         Ok(text) => text,

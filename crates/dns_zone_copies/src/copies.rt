@@ -24,18 +24,18 @@ pub struct Copies {
     target: Arc<NotifyTarget>,
     /// Checks of zones that are no longer configured.
     leaving: Vec<Checking>,
-    /// Set where checks are to be given up.
+    /// Set if checks are to be given up.
     stop: Arc<AtomicBool>,
 }
 
-/// Where the secondary of an entry stands among these.
+/// The place of the secondary of an entry in a list.
 fn place_of(secondaries: &[Secondary], entry: &ZoneEntry) -> Option<usize> {
     secondaries
         .iter()
         .position(|secondary| secondary.is_of(entry))
 }
 
-/// Takes the secondary of an entry out of these.
+/// Removes the secondary of an entry from a list.
 fn taken_out(secondaries: &mut Vec<Secondary>, entry: &ZoneEntry) -> Option<Secondary> {
     match place_of(secondaries.as_slice(), entry) {
         Some(place) if place < secondaries.len() => Some(secondaries.swap_remove(place)),
@@ -43,7 +43,7 @@ fn taken_out(secondaries: &mut Vec<Secondary>, entry: &ZoneEntry) -> Option<Seco
     }
 }
 
-/// The secondary of an entry, if that has a primary: one of these, where it was there before.
+/// The secondary of an entry, if that has a primary: one of these, if it was there before.
 fn followed(
     alloc: Global,
     before: &mut Vec<Secondary>,
@@ -64,7 +64,7 @@ fn followed(
     }
 }
 
-/// The secondaries of a configuration with these summaries, those of before taken out of these.
+/// The secondaries of a configuration with these summaries: those from before that are still in it, and new ones.
 fn follow_all(
     alloc: Global,
     before: &mut Vec<Secondary>,
@@ -164,7 +164,7 @@ impl Copies {
         self.leave(before)
     }
 
-    /// Ends the checks of zones that are no longer configured, where they are done.
+    /// Ends the checks of zones that are no longer configured, if they are done.
     fn look_at_leaving<R: Threads>(&mut self, rt: &R, alloc: Global) -> Result<(), OutOfMemory> {
         let leaving = mem::replace(&mut self.leaving, Vec::new(alloc));
         for checking in leaving {

@@ -10,21 +10,21 @@
 //! NOTIFY -> target -> look: a check is due
 //! ```
 //!
-//! A check is a connection to the primary in a thread of its own. It asks for the SOA record first, and for the zone where that
+//! A check is a connection to the primary in a thread of its own. It asks for the SOA record first, and for the zone if that
 //! is newer (RFC 1982). What comes is judged as a zone file is. The file of a copy is replaced by a rename.
 //!
 //! Moments are seconds since any moment that the owner picks. What comes of checks is logged.
 //!
 //! # What is proved
 //!
-//! - The copy of a zone is told from others by its name and by the address and port of its primary (`is_of`).
-//! - A zone that came replaces the copy only if its serial is newer; else the copy stays as it is (`take`).
+//! - The copy of a zone is distinguished from others by its name and by the address and port of its primary (`is_of`).
+//! - A zone that came replaces the copy only if its serial is newer; else the zone that is held stays (`take_copy`).
 //! - Which check is due when, and when a copy is discarded, is proved of `ZoneCopy` of dns_secondary. What comes of the
 //!   messages of a transfer is proved of dns_incoming.
 //!
 //! # What a body could still get away with
 //!
-//! No clause says what sockets, files and threads give. That a check is begun where one is due is a test's matter
+//! No clause says what sockets, files and threads give. That a check is begun if one is due is a test's matter
 //! (`tools/zoned`, `tools/interop/zoned`).
 #![tactic(auto)]
 

@@ -211,7 +211,7 @@ impl Secondary {
         }
     }
 
-    /// The check that has ended, where one has.
+    /// The check that has ended, if one has.
     fn take_check(&mut self) -> Option<Checking>
         ensures { self.new ≡ self.old }
     {

@@ -99,7 +99,7 @@ pub record Reads (d : RecordData) : Type 0 where
   pub word : IsWord (bare_word (type_word d))
   pub words : AllByRecursion IsWord (value_words d)
 
--- octets behind nothing and before nothing
+-- octets after nothing and before nothing
 alone : (o : List ℕ) → ([] ++ o) ++ [] ≡ o
 alone o = append-nil o
 

@@ -52,7 +52,7 @@ more_behind Gap w c run = refl
 more_behind Escaped w c run = refl
 more_behind QuotedEscaped w c run = refl
 
--- what is left behind octets that go on
+-- what is left after octets that go on
 abbrev Behind : Mode → List ℕ → Type 0
 Behind m text = (line : ℕ) (o : Option ℕ) (b : Bool) (ws : List Word) (w : List ℕ) (d : ZoneDraft)
     → steps (scan_of m line o b ws w) d text ≡ steps (scan_of m line o b ws (word_with m w (run_in m text))) d (drop (length (run_in m text)) text)
@@ -70,7 +70,7 @@ behind m (c ∷ cs) line o b ws w d = by_test m (goes_on_in m c) c cs (behind m 
 pub run_steps : (x : Scan) (d : ZoneDraft) (text : List ℕ) → steps x d text ≡ steps (with_run x (run_in x.mode text)) d (drop (length (run_in x.mode text)) text)
 run_steps x d text = behind x.mode text x.line x.opened x.blank x.words x.word d
 
--- ---- what comes behind them
+-- ---- what comes after them
 
 run_left : (x y : Scan) (d : ZoneDraft) (text rest : List ℕ) (n : ℕ) → n ≡ length (run_in x.mode text) → y ≡ with_run x (run_in x.mode text) → drop n text ≡ rest → steps x d text ≡ steps y d rest
 run_left x y d text rest n count taken left =

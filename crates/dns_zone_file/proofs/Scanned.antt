@@ -97,7 +97,7 @@ begins_word : (q : Bool) (c : ℕ) (w : List ℕ) → nat_eq c 92 ≡ q → (if 
 begins_word true c w e h = (is_first c (ends_at_92 c e), h)
 begins_word false c w e h = let p = and_parts (not (ends_word c)) (goes_on false w) h in (is_first c (not_true (ends_word c) p.0), p.1)
 
--- the word is in, behind others of its line
+-- the word is in, after others of its line
 gap_word : (w : List ℕ) → IsBare (bare_word w) → (t : List ℕ) (line : ℕ) (ws : List Word) (d : ZoneDraft) → steps (scanning Gap line ws []) d (w ++ t) ≡ steps (scanning Plain line ws w) d t
 gap_word w h t line ws d =
     let cells = h.cells in
@@ -113,7 +113,7 @@ regroup : {A B C E : Type 0} (r : Result A E) (f : A → B) (g : B → Result C 
 regroup (Ok x) f g = refl
 regroup (Err e) f g = refl
 
--- the entry of these words, and what is read behind it
+-- the entry of these words, and what is read after it
 abbrev Entry : ℕ → List Word → List ℕ → ZoneDraft → LineRead (Scan × ZoneDraft)
 Entry line ws t d = after_entry d line false ws >>= λ e. steps (scan_begins (line + 1)) e t
 
@@ -169,7 +169,7 @@ quote_ends : (line : ℕ) (ws : List Word) (o t : List ℕ) (d : ZoneDraft) → 
 unfolding after_octet
 quote_ends line ws o t d = refl
 
--- the string is in, behind others of its line
+-- the string is in, after others of its line
 gap_string : (o : List ℕ) → goes_quoted false o ≡ true → (t : List ℕ) (line : ℕ) (ws : List Word) (d : ZoneDraft) → steps (scanning Gap line ws []) d (written (quoted_word o) ++ t) ≡ steps (scanning Gap line (ws ++ word_on line (quoted_word o) ∷ []) []) d t
 gap_string o h t line ws d =
     quote_begins line ws ((o ++ 34 ∷ []) ++ t) d

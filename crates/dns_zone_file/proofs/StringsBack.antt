@@ -15,7 +15,7 @@ use Rattle.dns_zone_file.specs.Lines.{AreOctets, IsWord, goes_quoted, word_on, w
 
 -- ---- an octet in quotes
 
--- what reads a string octet by octet, where no escape is open
+-- what reads a string octet by octet, if no escape is open
 record IsReader {E : Type 0} (clear : E) (read : E → List ℕ → List ℕ → Option (List ℕ)) : Type 0 where
   ends : (o : List ℕ) → read clear o [] ≡ Some o
   plain : (o cs : List ℕ) (c : ℕ) → nat_eq c 92 ≡ false → read clear o (c ∷ cs) ≡ read clear (o ++ c ∷ []) cs

@@ -7,14 +7,14 @@ use Rattle.dns_zone_file.specs.ZoneFile.{ZoneDraft, steps}
 use Rattle.dns_entries.specs.declared.scan.Scan.{Scan}
 use Rattle.dns_entries.specs.declared.entry.Word.{Word}
 
--- whether octets go on with a word to its end, behind a backslash or not
+-- whether octets go on with a word to its end, after a backslash or not
 abbrev pub goes_on : Bool → List ℕ → Bool
 goes_on true [] = false
 goes_on false [] = true
 goes_on true (c ∷ cs) = not (nat_eq c 10) && goes_on false cs
 goes_on false (c ∷ cs) = if nat_eq c 92 then goes_on true cs else (not (ends_word c) && goes_on false cs)
 
--- whether octets go on with a string in quotes to its end, behind a backslash or not
+-- whether octets go on with a string in quotes to its end, after a backslash or not
 abbrev pub goes_quoted : Bool → List ℕ → Bool
 goes_quoted true [] = false
 goes_quoted false [] = true
@@ -51,6 +51,6 @@ abbrev pub HoldOctets : List (List ℕ) → Type 0
 HoldOctets [] = Unit {0}
 HoldOctets (l ∷ ls) = AreOctets l × HoldOctets ls
 
--- the entry of a line, and what is read behind it
+-- the entry of a line, and what is read after it
 abbrev pub read_behind : LineRead ZoneDraft → ℕ → List ℕ → LineRead (Scan × ZoneDraft)
 read_behind r line t = r >>= λ e. steps (scan_begins (line + 1)) e t

@@ -21,11 +21,11 @@ reading_of s = record { scan = s.0; draft = s.1 }
 abbrev pub after_piece : ZoneReading → List ℕ → LineRead ZoneReading
 after_piece z text = steps z.scan z.draft text >>= λ s. Ok (reading_of s)
 
--- and another behind it
+-- what was read, and one piece more after it
 abbrev pub then_piece : LineRead ZoneReading → List ℕ → LineRead ZoneReading
 then_piece r text = r >>= λ z. after_piece z text
 
--- the records, where LF stands at the end
+-- the records, if LF stands at the end
 unfoldable pub zone_finished : ZoneReading → LineRead (List Record)
 zone_finished z = do
   t ← step z.scan z.draft 10

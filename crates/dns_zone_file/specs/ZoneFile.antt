@@ -47,7 +47,7 @@ moved_to d p = record d { origin = p.origin; owner = p.owner }
 
 -- ---- TTL and class, each of which may be missing, in either order
 
--- whether the first word is the class IN, where another is refused
+-- whether the first word is the class IN, if another is refused
 abbrev pub class_of_word : Word → Option Bool → LineRead Bool
 class_of_word w None = Ok false
 class_of_word w (Some true) = Ok true
@@ -68,7 +68,7 @@ ttl_at (w ∷ ws) = if is_ttl w then (period_in w >>= λ n. Ok (Some n, ws)) els
 abbrev pub without : Bool → List Word → List Word
 without b ws = if b then drop 1 ws else ws
 
--- the class may stand behind the TTL where it doesn't stand before it
+-- the class may stand after the TTL if it doesn't stand before it
 abbrev pub class_behind : Bool → List Word → LineRead Bool
 class_behind b ws = if b then Ok false else class_at ws
 
@@ -90,7 +90,7 @@ soa_minimum _ = None
 abbrev pub ttl_of : ZoneDraft → Option ℕ → RecordData → Option ℕ
 ttl_of d own rdata = some_or_else own (some_or_else d.default_ttl (some_or_else d.last_ttl (soa_minimum rdata)))
 
--- data that was read, or that none was, unless memory was wanting
+-- data that was read, or that none was, unless memory ran out
 abbrev pub GivesShaped : {A : Type 0} → Result A ReasonError → Result A ParseError → Type 0
 GivesShaped (Ok x) read = read ≡ Ok x
 GivesShaped (Err NoMemory) read = Unit {0}

@@ -45,7 +45,7 @@ fn is_ttl(word: &Word) -> bool
     }
 }
 
-/// The TTL that words begin with, and the words behind it.
+/// The TTL that words begin with, and the words after it.
 fn ttl_at(words: &[Word]) -> Result<(Option<u32>, &[Word]), ZoneFileError>
     ensures { Gives (λ r. (r.0, r.1.now)) result (ttl_at words.now) }
 {
@@ -59,7 +59,7 @@ fn ttl_at(words: &[Word]) -> Result<(Option<u32>, &[Word]), ZoneFileError>
     Ok((None, words))
 }
 
-/// The words, without the first where the test holds.
+/// The words, without the first if the test holds.
 fn without(test: bool, words: &[Word]) -> &[Word]
     ensures { result.now ≡ without test words.now }
 {
@@ -69,7 +69,7 @@ fn without(test: bool, words: &[Word]) -> &[Word]
     }
 }
 
-/// Whether the class stands behind the TTL.
+/// Whether the class stands after the TTL.
 fn class_behind(before: bool, words: &[Word]) -> Result<bool, ZoneFileError>
     ensures { Gives (λ b. b) result (class_behind before words.now) }
 {
@@ -90,7 +90,7 @@ fn head(words: &[Word]) -> Result<(Option<u32>, &[Word]), ZoneFileError>
     Ok((ttl, without(last, behind)))
 }
 
-/// Whether an entry that begins with this word says something of those behind it.
+/// Whether an entry that begins with this word says something of those after it.
 fn is_directive(word: &Word) -> bool
     ensures { result ≡ is_directive word.now }
 {

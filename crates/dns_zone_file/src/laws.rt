@@ -17,7 +17,7 @@ pub fn names_read_back()
     ensures { (origin ls : List (List ℕ)) → IsName ls → HoldOctets ls → name_of origin (absolute_text ls) ≡ Ok ls }
 {}
 
-/// A line of words is one entry of these words, and what follows it is read behind that.
+/// A line of words is one entry of these words, and what follows it is read after that.
 pub fn lines_are_entries()
     ensures { (w : TextWord) (ws : List TextWord) (t : List ℕ) (line : ℕ) (d : ZoneDraft) → AllByRecursion IsWord (w ∷ ws)
         → steps (scan_begins line) d (words_line w ws ++ t) ≡ read_behind (after_entry d line false (words_on line (w ∷ ws))) line t }

@@ -31,7 +31,7 @@ pub(crate) fn step(
     Ok(())
 }
 
-/// The octets that go on with a word or a comment, and one behind them; gives those that are left, if there is one.
+/// The octets that go on with a word or a comment, and one after them; gives those that are left, if there is one.
 #[tactic(auto, using(crate::proofs::Runs::run_ended, crate::proofs::Runs::run_behind, crate::proofs::Runs::run_refused))]
 fn run_and_step<'a>(
     alloc: Global,

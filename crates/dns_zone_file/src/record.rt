@@ -12,7 +12,7 @@ use dns_message::{Record, RecordData};
 use dns_name::{Class, Name, OutOfMemory, ParseError, Rtype, Ttl};
 use std::alloc::Global;
 
-/// The data that octets are; none where they haven't the shape of its type.
+/// The data that octets are; none if they haven't the shape of its type.
 fn data_of_shape(alloc: Global, rtype: u16, octets: &[u8]) -> Result<RecordData, ReasonError>
     requires { length octets.now ≤ 65535 }
     ensures value { GivesShaped result (data_alone rtype octets.now) }
@@ -34,7 +34,7 @@ fn is_written_as(alloc: Global, rdata: &RecordData, octets: &[u8]) -> Result<boo
     Ok(written.as_slice() == octets)
 }
 
-/// Data, where it is written as these octets.
+/// Data, if it is written as these octets.
 fn uncompressed(
     alloc: Global,
     at: u64,
@@ -51,7 +51,7 @@ fn uncompressed(
     Err(refused(at, EntryReason::Shape))
 }
 
-/// The data of a type that octets are, where they have its shape and no compressed name.
+/// The data of a type that octets are, if they have its shape and no compressed name.
 pub(crate) fn shaped_data(
     alloc: Global,
     at: u64,

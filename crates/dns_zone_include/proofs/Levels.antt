@@ -1,4 +1,4 @@
--- Inclusions of so many levels.
+-- Inclusions of that many levels.
 use Rattle.std.proofs.Common.{◌≡◌, ℕ, zero, suc, ◌-◌, ◌<◌, List, Err, refl, ap, subst, arith}
 use Rattle.std.specs.Prelude.{Result}
 use Rattle.dns_zone_file.specs.ZoneFile.{ZoneDraft}

@@ -1,4 +1,4 @@
--- The origin and the owner behind an included text.
+-- The origin and the owner after an included text.
 use Rattle.std.proofs.Common.{◌≡◌, ℕ, zero, suc, List, [], ◌∷◌, ◌++◌, Ok, Err, ap, sym}
 use Rattle.dns_entries.specs.Reading.{◌>>=◌}
 use Rattle.dns_zone_file.specs.ZoneFile.{ZoneDraft, place_of}

@@ -22,7 +22,7 @@ refused_in name line r e read h q = refused_so name line (Entry r) e (in_text na
 pub gives_along : {X A : Type 0} (view : X → A) (r : Result X IncludeError) (a b : TextRead A) → GivesIn view r a → a ≡ b → GivesIn view r b
 gives_along view r a b h e = subst (λ (q : TextRead _). GivesIn view r q) e h
 
--- what would go on behind a refusal
+-- what would go on after a refusal
 pub fails_on : {A B : Type 0} (e : IncludeError) (a : TextRead A) (f : A → TextRead B) → FailsIn e a → FailsIn e (a >>= f)
 fails_on OutOfMemory a f h = tt
 fails_on (Refused n l s) a f h = ap (λ (q : TextRead _). q >>= f) h

@@ -65,7 +65,7 @@ first_read : (a : TextRead Begun) (b : Begun → TextRead Begun) (c : Begun → 
 first_read (Ok s) b c = then_read (b s) c
 first_read (Err e) b c = refl
 
--- the records where no parenthesis is open, and behind the last octet
+-- the records if no parenthesis is open, and after the last octet
 abbrev closed_alone : Begun → LineRead (List Record)
 closed_alone t = closed t.0.opened >>= λ _. Ok t.1.records
 

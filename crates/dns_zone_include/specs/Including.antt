@@ -24,9 +24,9 @@ Texts = List ℕ → Option (List ℕ)
 abbrev pub Included : Type 0
 Included = ZoneDraft → Inclusion → TextRead ZoneDraft
 
--- ---- the words behind $INCLUDE
+-- ---- the words after $INCLUDE
 
--- the origin for the included text: that of the including one where no other is named
+-- the origin for the included text: that of the including one if no other is named
 abbrev pub origin_in : List (List ℕ) → List Word → LineRead (List (List ℕ))
 origin_in origin [] = Ok origin
 origin_in origin (w ∷ ws) = name_in origin w >>= λ name. nothing_more ws >>= λ _. Ok name
@@ -38,7 +38,7 @@ inclusion_in origin line ws = do
   below ← origin_in origin w.1
   Ok (record { name = name; line = w.0.line; origin = below })
 
--- ---- a text, which is read as a zone file but for $INCLUDE
+-- ---- a text, which is read as a zone file except for $INCLUDE
 
 -- an entry that is $INCLUDE
 abbrev pub include_of : List ℕ → Included → ZoneDraft → ℕ → List Word → TextRead ZoneDraft
@@ -63,7 +63,7 @@ abbrev pub octets_of : List ℕ → Included → Scan → ZoneDraft → List ℕ
 octets_of name include x d [] = Ok (x, d)
 octets_of name include x d (c ∷ cs) = octet_of name include x d c >>= λ s. octets_of name include s.0 s.1 cs
 
--- a text, which is read as if LF stood at its end; its lines are counted from 1, and no parenthesis goes on behind it
+-- a text, which is read as if LF stood at its end; its lines are counted from 1, and no parenthesis goes on after it
 unfoldable pub text_of : List ℕ → Included → ZoneDraft → List ℕ → TextRead ZoneDraft
 text_of name include d text = do
   s ← octets_of name include (scan_begins 1) d text
@@ -97,7 +97,7 @@ one_text texts below names name d i = do
   e ← text_of i.name (below (names ++ i.name ∷ []) i.name) (record d { origin = i.origin }) text
   Ok (place_again d e)
 
--- inclusions of so many levels in the text of this name, which is one of those that are being read
+-- inclusions of that many levels in the text of this name, which is one of those that are being read
 unfoldable pub included : Texts → ℕ → List (List ℕ) → List ℕ → Included
 included texts zero names name d i = Err (name, i.line, Depth)
 included texts (suc n) names name d i = one_text texts (included texts n) names name d i

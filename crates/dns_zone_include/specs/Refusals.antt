@@ -16,17 +16,17 @@ abbrev pub in_text : {A : Type 0} → List ℕ → LineRead A → TextRead A
 in_text name (Ok x) = Ok x
 in_text name (Err e) = Err (name, e.0, Entry e.1)
 
--- an error is the refusal that is read, or want of memory
+-- an error is the refusal that is read, or out of memory
 abbrev pub FailsIn : {A : Type 0} → IncludeError → TextRead A → Type 0
 FailsIn OutOfMemory read = Unit {0}
 FailsIn (Refused name line r) read = read ≡ Err (name, line, r)
 
--- what is read is given, unless memory was wanting
+-- what is read is given, unless memory ran out
 abbrev pub GivesIn : {X A : Type 0} → (X → A) → Result X IncludeError → TextRead A → Type 0
 GivesIn view (Ok x) read = read ≡ Ok (view x)
 GivesIn view (Err e) read = FailsIn e read
 
--- an error is this refusal, or want of memory
+-- an error is this refusal, or out of memory
 abbrev pub IsRefusal : List ℕ → ℕ → IncludeReason → IncludeError → Type 0
 IsRefusal name line r OutOfMemory = Unit {0}
 IsRefusal name line r (Refused n l s) = (n ≡ name) × (l ≡ line) × (s ≡ r)

@@ -1,4 +1,4 @@
-//! What stands behind `$INCLUDE`.
+//! What stands after `$INCLUDE`.
 
 ghost use Rattle.std.specs.Prelude.{◌≡◌, drop};
 ghost use Rattle.dns_entries.specs.Reading.{Gives};
@@ -41,7 +41,7 @@ fn origin_in(alloc: Global, origin: &Name, words: &[Word]) -> Result<Name, ZoneF
     Ok(name)
 }
 
-/// The words behind the first.
+/// The words after the first.
 pub(crate) fn behind_first(words: &[Word]) -> &[Word]
     ensures { result.now ≡ drop 1 words.now }
 {
@@ -51,7 +51,7 @@ pub(crate) fn behind_first(words: &[Word]) -> &[Word]
     }
 }
 
-/// What the words behind `$INCLUDE` name, in an entry that ends on this line.
+/// What the words after `$INCLUDE` name, in an entry that ends on this line.
 #[tactic(auto, unfolding(crate::specs::Including::inclusion_in))]
 pub(crate) fn inclusion_in(
     alloc: Global,

@@ -12,7 +12,7 @@ pub fn a_zone_file_alone_is_read_so()
         → zone_file origin text ≡ Ok rs → zone_including texts origin name text ≡ Ok rs }
 {}
 
-/// Behind `$INCLUDE` the origin is the one before, whatever the included text said (RFC 1035, section 5.1), and so is
+/// After `$INCLUDE` the origin is the one before, whatever the included text said (RFC 1035, section 5.1), and so is
 /// the last owner.
 pub fn the_origin_comes_back()
     ensures { (texts : Texts) (levels : ℕ) (names : List (List ℕ)) (name : List ℕ) (d e : ZoneDraft) (i : Inclusion)

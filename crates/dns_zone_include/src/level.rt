@@ -81,7 +81,7 @@ fn asked_for(
     }
 }
 
-/// Copies names, and one behind them.
+/// Copies names, and one after them.
 fn names_with(alloc: Global, names: &[Octets], name: &[u8]) -> Result<Vec<Octets>, OutOfMemory>
     ensures { IfOk result (λ all. all.items ≡ names.now ++ name.now ∷ []) }
 {

@@ -7,7 +7,7 @@
 //! - `IncludeError` says why there are no records: the name of a text, a line of it, and an `IncludeReason`; or no
 //!   memory.
 //!
-//! An included text has the origin that is named behind it, or that of the including one. Behind it the origin and the
+//! An included text has the origin that is named after it, or that of the including one. After it the origin and the
 //! last owner are those before. TTLs go on, as in BIND. Its lines are counted from 1, and a parenthesis ends in it. A
 //! text that is being read isn't included, and texts nest 16 levels deep at most.
 //!
@@ -20,7 +20,7 @@
 //! - What is read are exactly the records of the definition `zone_including`, or its first refusal: the text, the line and
 //!   the reason.
 //! - A text that `read_zone` reads gives the same records here (`a_zone_file_alone_is_read_so`).
-//! - Behind `$INCLUDE` the origin and the owner are those before (`the_origin_comes_back`).
+//! - After `$INCLUDE` the origin and the owner are those before (`the_origin_comes_back`).
 //! - No text crashes a call, and every loop ends, whatever texts include.
 //!
 //! # What a body could still get away with

@@ -10,7 +10,7 @@ use std::alloc::{AllocError, AllocFailed, Global};
 /// Why a line of a text is refused.
 #[derive(Drop)]
 pub enum IncludeReason {
-    /// It is refused in a zone file alone, too, or what stands behind `$INCLUDE` is.
+    /// It is refused in a zone file alone, too, or what stands after `$INCLUDE` is.
     Entry(EntryReason),
     /// There is no text of this name to be included.
     NoText(Octets),

@@ -8,7 +8,7 @@ use dns_name::{Octets, OutOfMemory};
 use std::alloc::Global;
 use std::marker::Model;
 
-/// Texts that zone files may include, each by its name. The names are those that stand behind `$INCLUDE`, octet by
+/// Texts that zone files may include, each by its name. The names are those that stand after `$INCLUDE`, octet by
 /// octet.
 pub trait ZoneTexts {
     /// The text of a name, if there is one.

@@ -34,7 +34,7 @@ not_false false h = refl
 pub true_false : true ≡ false → ⊥
 true_false h = absurd (cc)
 
--- where no element passes a test, none passes a stronger one
+-- if no element passes a test, none passes a stronger one
 pub any_false : {X : Type 0} (p q : X → Bool) → ((x : X) → p x ≡ true → q x ≡ true) → (xs : List X) → list_any q xs ≡ false → list_any p xs ≡ false
 any_false p q w xs h = false_by (list_any p xs) (λ t. true_false (sym (any_weaker p q w xs t) ∙ h))
 
@@ -95,7 +95,7 @@ module _ (z : ZoneState) (within : AllByRecursion (IsInZone z.apex) z.records) w
   and_false true = refl
   and_false false = refl
 
-  -- one label further down, where nothing ends there
+  -- one label further down, if nothing ends there
   pub down_within : (c : Bool) (name parent : List (List ℕ)) (r : Region) → r ≡ Within → asked_records z parent 39 ≡ [] → (c && is_cut z name) ≡ false → down z c name parent r ≡ Within
   down_within c name parent r e d k =
       ap (down z c name parent) e

@@ -1,4 +1,4 @@
--- Which cause a list is refused for, and what follows where it is for none.
+-- Which cause a list is refused for, and what follows if it is for none.
 use Rattle.std.proofs.Common.{◌≡◌, ℕ, zero, suc, ◌+◌, ◌-◌, ◌<◌, Bool, true, false, List, [], ◌∷◌, length, cond, get_or, nat_eq, Option, Some, None, Ok, Err, refl, ap, sym, subst, ◌∙◌, arith}
 use Rattle.std.specs.Prelude.{◌&&◌, ◌||◌, not, nat_lt, if◌then◌else◌, option_map}
 use Rattle.std.specs.List.{AllByRecursion, filter, position, position_from}
@@ -90,7 +90,7 @@ module _ (apex : List (List ℕ)) (rs : List Record) where
         pub accepted : None ≡ position (is_crowded rs) rs → tree_error apex rs ≡ None
         accepted e = by_aliases ∙ ap (λ (o : Option ℕ). first_cause (option_map Cname o ∷ [])) (sym e)
 
--- ---- what follows where a list isn't refused
+-- ---- what follows if a list isn't refused
 
 within_step : (b : Bool) (i : ℕ) (more : Option ℕ) → cond (not b) (Some i) more ≡ None → (b ≡ true) × (more ≡ None)
 within_step true i more h = (refl, h)
@@ -178,7 +178,7 @@ beside_count name rs =
     let d = places_count (is_asked name 47) rs in
     omega (arith, a, b, c, d)
 
--- a CNAME is crowded where more places are kept for its owner than its own, and those of RRSIG and NSEC
+-- a CNAME is crowded if more places are kept for its owner than its own, and those of RRSIG and NSEC
 pub crowded_by : (n : Names) (rs : List Record) (r : Record) (o : List ℕ) (found : Option Kinds) → KnowsNames n rs → o ≡ canonical_key r.owner → found ≡ kinds_under n o → is_of 5 r ≡ true →
     is_crowded rs r ≡ nat_lt 1 (length (places_in 255 found) - length (places_in 46 found) - length (places_in 47 found))
 crowded_by n rs r o found k e f t =

@@ -71,7 +71,7 @@ joining_last o all ks ns ms e h =
 
 -- ---- one record more
 
--- its place behind those that are open
+-- its place after those that are open
 opened : (b : Bool) (ms : List TypedPlace) (k : Keyed) (ks : List Keyed) → (if b then ms ++ k.kind ∷ [] else []) ++ map (λ (x : Keyed). x.kind) ks ≡ (if b then ms else []) ++ map (λ (x : Keyed). x.kind) (cond b (k ∷ ks) ks)
 opened true ms k ks = append_assoc ms (k.kind ∷ []) (map (λ (x : Keyed). x.kind) ks)
 opened false ms k ks = refl

@@ -52,7 +52,7 @@ below_trans p q r a b = true_by (is_below p r) (λ e. true≢false (sym a ∙ st
 own_below : (p : List ℕ) → is_below p p ≡ false
 own_below p = false_from_ne_true (is_below p p) (λ e. true≢false (sym e ∙ strict.one_way p p e))
 
--- a key that isn't before another, and is another, is behind it
+-- a key that isn't before another, and is another, is after it
 pub next_below : (p q : List ℕ) → is_below q p ≡ false → bytes_eq p q ≡ false → is_below p q ≡ true
 next_below p q h n =
     true_by (is_below p q) (λ e. true≢false (sym (tied (slice_cmp nat_cmp p q) e (sym (turned p q) ∙ h)) ∙ (sym (texts_ties p q) ∙ n)))

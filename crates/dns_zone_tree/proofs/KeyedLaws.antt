@@ -36,7 +36,7 @@ use Rattle.dns_zone_tree.proofs.KeyOrder.{ties_same}
 use Rattle.dns_zone_tree.proofs.KindLaws.{places_join}
 use Rattle.dns_zone_tree.proofs.SearchLaws.{places_among, some_among}
 
--- ---- a key begins with another exactly where its name ends with the other's
+-- ---- a key begins with another exactly if its name ends with the other's
 
 begins_ends : (a b : List (List ℕ)) → begins (canonical_key b) (canonical_key a) ≡ ends_name a b
 begins_ends a b =
@@ -57,9 +57,9 @@ begins_ends a b =
     in
     both_ways (begins (canonical_key b) (canonical_key a)) (ends_name a b) there back
 
--- ---- keys behind one another
+-- ---- keys after one another
 
--- a key stays where octets come behind
+-- a key stays if octets come after
 key_stays : (o more : List ℕ) (s : Span) → s.end ≤ length o → key_of (o ++ more) s ≡ key_of o s
 key_stays o more s h = by_order (nat_le s.start s.end) refl
   where

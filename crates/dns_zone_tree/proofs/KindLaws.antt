@@ -31,7 +31,7 @@ places_ahead t ks i d h = ap (places_of t) (drop_more ks i d h) ∙ places_join 
 pub places_next : (t : ℕ) (ks : List TypedPlace) (i : ℕ) (d : TypedPlace) → i < length ks → places_of t (take (i + 1) ks) ≡ places_of t (take i ks) ++ places_of t (get_or ks i d ∷ [])
 places_next t ks i d h = ap (places_of t) (take_more ks i d h) ∙ places_join t (take i ks) (get_or ks i d ∷ [])
 
--- one place, where it is of a type or not
+-- one place, if it is of a type or not
 pub one_place : (t : ℕ) (k : TypedPlace) → is_kind t k ≡ true → places_of t (k ∷ []) ≡ k.place ∷ []
 one_place t k e = ap (λ (b : Bool). map place_of (cond b (k ∷ []) [])) e
 

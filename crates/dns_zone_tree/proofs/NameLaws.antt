@@ -14,7 +14,7 @@ ends_self a q h =
     let k : length a - length q ≡ 0 = omega (arith, n) in
     both_true (nat_le (length q) (length a)) (same_name (drop (length a - length q) a) q) (le_true (length q) (length a) (omega (arith, n))) (ap (λ (i : ℕ). same_name (drop i a) q) k ∙ h)
 
--- what ends with a name ends with the name behind its first label
+-- what ends with a name ends with the name after its first label
 pub ends_shorter : (o : List (List ℕ)) (l : List ℕ) (ls : List (List ℕ)) → ends_name o (l ∷ ls) ≡ true → ends_name o ls ≡ true
 ends_shorter o l ls h =
     let k = length o - length (l ∷ ls) in

@@ -46,7 +46,7 @@ module _ (o : List ℕ) (none : Kinds) (p : List ℕ) where
   over : (n : Node) (ns : List Node) → begins_node o p n ≡ false → kinds_among o none p (n ∷ ns) ≡ kinds_among o none p ns
   over n ns b = ap (λ (c : Bool). if c then node_kinds o none p n else kinds_among o none p ns) b
 
-  -- none behind a node that isn't before the octets, and doesn't begin with them, begins with them
+  -- none after a node that isn't before the octets, and doesn't begin with them, begins with them
   none_behind : (n : Node) (ns : List Node) → is_before o p n ≡ false → begins_node o p n ≡ false → AllByRecursion (IsAfter o p n) ns → kinds_among o none p ns ≡ None
   none_behind n [] h b a = refl
   none_behind n (m ∷ ns) h b a =
@@ -69,7 +69,7 @@ module _ (o : List ℕ) (none : Kinds) (p : List ℕ) where
   pub found_at : (ns : List Node) (i : ℕ) → AreOrdered o ns → IsPartitionPoint (λ (n : Node). is_before o p n ≡ true) (λ (n : Node). is_before o p n ≡ false) ns i → kinds_among o none p ns ≡ kept_by o none p (slice_get ns i)
   found_at ns i w h = finds ns i w (λ k d l. h.0 k d (omega arith) l) (λ k d l m. h.1 k d l m)
 
-  -- something is kept exactly where a node begins with the octets
+  -- something is kept exactly if a node begins with the octets
   some_step : (n : Node) (b c : Bool) (o2 : Option Kinds) → begins_node o p n ≡ b → is_some o2 ≡ c → is_some (if b then node_kinds o none p n else o2) ≡ (b || c)
   some_step n true c o2 e h = some_by (bytes_eq (key_of o n.span) p) (begins_node o p n) e
     where

@@ -43,7 +43,7 @@ asked_none z name t is e h = none_of (asked_records z name t) (as_many z name t 
 
 -- ---- the way
 
--- down to the name behind so many labels, whose records have these places
+-- down to the name after that many labels, whose records have these places
 pub record IsOnWay (z : ZoneState) (name : List (List ℕ)) (left : ℕ) (last : Kinds) : Type 0 where
   pub few : left + length z.apex ≤ length name
   pub region_ : region z (drop left name) ≡ Within

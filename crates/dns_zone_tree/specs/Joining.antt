@@ -16,7 +16,7 @@ AreRising o (x ∷ y ∷ ks) = (is_lower o y x ≡ false) × AreRising o (y ∷ 
 abbrev pub AreBefore : List ℕ → List ℕ → List Node → Type 0
 AreBefore o p ns = AllByRecursion (λ (n : Node). is_before o p n ≡ true) ns
 
--- and before the next record's, where there is one
+-- all keys of nodes are before the key of the next record, if there is one
 abbrev pub AreBeforeFirst : List ℕ → List Node → List Keyed → Type 0
 AreBeforeFirst o ns [] = Unit {0}
 AreBeforeFirst o ns (k ∷ ks) = AreBefore o (key_of o k.span) ns

@@ -4,7 +4,7 @@ use Rattle.dns_base.specs.Records.{record_of}
 use Rattle.dns_base.specs.Wire.{record_octets}
 use Rattle.dns_message.specs.declared.record.Record.{Record}
 
--- so many octets at most for one record: then a reply has room for it beside a question and an OPT record
+-- that many octets at most for one record: then a reply has room for it beside a question and an OPT record
 abbrev pub record_limit : ℕ
 record_limit = 65000
 

@@ -13,7 +13,7 @@ use Rattle.dns_zone_tree.specs.declared.names.Keyed.{Keyed}
 use Rattle.dns_zone_tree.specs.declared.names.Node.{Node}
 use Rattle.dns_zone_tree.specs.declared.names.Span.{Span}
 
--- the octets of a key; none where it doesn't lie among the octets
+-- the octets of a key; none if it doesn't lie among the octets
 abbrev pub key_of : List ℕ → Span → List ℕ
 key_of o s = if nat_le s.start s.end && nat_le s.end (length o) then slice_range o s.start s.end else []
 
@@ -27,7 +27,7 @@ begins p key = bytes_eq p (take (length p) key)
 
 -- ---- records
 
--- whether the key of a record's owner is one
+-- whether octets are the key of a record's owner
 abbrev pub is_at : List ℕ → List ℕ → Keyed → Bool
 is_at o p k = bytes_eq (key_of o k.span) p
 
@@ -42,7 +42,7 @@ begins_keyed o p k = begins p (key_of o k.span)
 abbrev pub is_lower : List ℕ → Keyed → Keyed → Bool
 is_lower o a b = is_below (key_of o a.span) (key_of o b.span)
 
--- whether the next key, where there is one, is another
+-- whether the next key, if there is one, is another
 abbrev pub is_last : List ℕ → List ℕ → List Keyed → Bool
 is_last o p [] = true
 is_last o p (k ∷ ks) = not (bytes_eq p (key_of o k.span))
@@ -56,7 +56,7 @@ is_before o p n = is_below (key_of o n.span) p
 abbrev pub begins_node : List ℕ → List ℕ → Node → Bool
 begins_node o p n = begins p (key_of o n.span)
 
--- each node comes before those behind it
+-- each node comes before those after it
 abbrev pub AreOrdered : List ℕ → List Node → Type 0
 AreOrdered o [] = Unit {0}
 AreOrdered o (n ∷ ns) = AllByRecursion (λ (m : Node). is_before o (key_of o m.span) n ≡ true) ns × AreOrdered o ns
@@ -79,7 +79,7 @@ pub record Names : Type 0 where
   pub nodes : List Node
   pub none : Kinds
 
--- what is kept of a key: what is there where a node's key is it, and nothing where that only begins with it
+-- what is kept of a key: what is there if a node's key is it, and nothing if that only begins with it
 abbrev pub kinds_by : List ℕ → List ℕ → Kinds → Kinds → Option Kinds
 kinds_by own p kinds none = if bytes_eq own p then Some kinds else (if begins p own then Some none else None)
 

@@ -29,7 +29,7 @@ abbrev pub region : ZoneState → List (List ℕ) → Region
 region z [] = Within
 region z (l ∷ ls) = down z true (l ∷ ls) ls (region z ls)
 
--- where a type is asked for: DS at a cut is the parent's (RFC 4035, section 3.1.4.1)
+-- if a type is asked for: DS at a cut is the parent's (RFC 4035, section 3.1.4.1)
 abbrev pub asked_region : ZoneState → ℕ → List (List ℕ) → Region
 asked_region z t [] = Within
 asked_region z t (l ∷ ls) = down z (not (nat_eq t 43)) (l ∷ ls) ls (region z ls)

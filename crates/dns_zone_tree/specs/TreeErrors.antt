@@ -37,17 +37,17 @@ is_alone r = not (is_of 46 r || is_of 47 r)
 abbrev pub is_beside : List (List ℕ) → Record → Bool
 is_beside name r = is_owned name r && is_alone r
 
--- a CNAME whose owner has another record, but for RRSIG and NSEC
+-- a CNAME whose owner has another record, except for RRSIG and NSEC
 abbrev pub is_crowded : List Record → Record → Bool
 is_crowded rs r = is_of 5 r && nat_lt 1 (length (filter (is_beside r.owner) rs))
 
-abbrev pub has_fault : RecordDefect → List (List ℕ) → Record → Bool
-has_fault OutsideApex apex r = is_outside apex r
-has_fault OtherClass apex r = has_other_class r
-has_fault IsOpt apex r = is_of 41 r
-has_fault Misplaced apex r = is_misplaced apex r
-has_fault WildServers apex r = has_wild_servers r
-has_fault TooLong apex r = is_long r
+abbrev pub has_defect : RecordDefect → List (List ℕ) → Record → Bool
+has_defect OutsideApex apex r = is_outside apex r
+has_defect OtherClass apex r = has_other_class r
+has_defect IsOpt apex r = is_of 41 r
+has_defect Misplaced apex r = is_misplaced apex r
+has_defect WildServers apex r = has_wild_servers r
+has_defect TooLong apex r = is_long r
 
 -- the first record for which a list is no list of a zone
 abbrev pub place_error : List (List ℕ) → List Record → Option TreeError

@@ -10,12 +10,12 @@ use Rattle.dns_zone_tree.specs.declared.kinds.Kinds.{Kinds}
 use Rattle.dns_zone_tree.specs.declared.walk.Walk.{Walk}
 use Rattle.dns_zone_tree.specs.declared.walk.Walk.TheVariants.{Cut, Dname, Node, Missing}
 
--- what is kept of a name that exists, where it does
+-- what is kept of a name that exists, if it does
 pub record IsNode (z : ZoneState) (name : List (List ℕ)) (o : Option Kinds) : Type 0 where
   pub kept : (t : ℕ) → places_in t o ≡ places (is_asked name t) z.records
   pub there : is_some o ≡ exists z name
 
--- whether a name so many labels above the one that is asked for may be a cut: DS at a cut is the parent's
+-- whether a name that many labels above the one that is asked for may be a cut: DS at a cut is the parent's
 abbrev pub may_cut : ℕ → ℕ → Bool
 may_cut left t = not (nat_eq left 0 && nat_eq t 43)
 
@@ -33,13 +33,13 @@ pub record ReachesNode (z : ZoneState) (t : ℕ) (name : List (List ℕ)) (m : K
   pub exists_ : exists z name ≡ true
   pub kept : (u : ℕ) → kind_places u m ≡ places (is_asked name u) z.records
 
--- the name lies within and doesn't exist; its closest encloser is behind so many labels
+-- the name lies within and doesn't exist; its closest encloser is after that many labels
 pub record ReachesNone (z : ZoneState) (t : ℕ) (name : List (List ℕ)) (skipped : ℕ) : Type 0 where
   pub region : asked_region z t name ≡ Within
   pub missing : exists z name ≡ false
   pub encloser_ : encloser z name ≡ drop skipped name
 
--- what a walk to a name ends at, where a type is asked for
+-- what a walk to a name ends at, if a type is asked for
 abbrev pub EndsAt : ZoneState → ℕ → List (List ℕ) → Walk → Type 0
 EndsAt z t name (Cut m) = asked_region z t name ≡ BelowCut (at_places z.records (kind_places 2 m.now))
 EndsAt z t name (Dname m) = (asked_region z t name ≡ BelowDname (at_places z.records (kind_places 39 m.now)))

@@ -1,4 +1,4 @@
--- Wildcards (RFC 4592): where a name doesn't exist, the records of the wildcard below its closest encloser are given as its own.
+-- Wildcards (RFC 4592): if a name doesn't exist, the records of the wildcard below its closest encloser are given as its own.
 use Rattle.std.specs.Prelude.{ℕ, Bool, true, false, List, [], ◌∷◌, map, if◌then◌else◌}
 use Rattle.dns_message.specs.declared.record.Record.{Record}
 use Rattle.dns_zone.specs.Owned.{ZoneState, asked_records}
@@ -21,7 +21,7 @@ wildcard z name = star ∷ encloser z name
 abbrev pub given_as : List (List ℕ) → Record → Record
 given_as name r = record r { owner = name }
 
--- the records of a type that a name has: its own where it exists, and else those of the wildcard, as its own
+-- the records of a type that a name has: its own if it exists, and else those of the wildcard, as its own
 abbrev pub had_records : ZoneState → List (List ℕ) → ℕ → List Record
 had_records z name t = if exists z name then asked_records z name t else map (given_as name) (asked_records z (wildcard z name) t)
 

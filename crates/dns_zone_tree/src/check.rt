@@ -8,7 +8,7 @@ ghost use Rattle.dns_zone.specs.Owned.{AreLawful, ZoneState, is_of};
 ghost use Rattle.dns_zone.specs.ZoneErrors.{is_outside};
 ghost use Rattle.dns_zone_tree.specs.Kinds.{kind_places};
 ghost use Rattle.dns_zone_tree.specs.Names.{KnowsNames};
-ghost use Rattle.dns_zone_tree.specs.TreeErrors.{Makes, has_fault, has_wild_servers, is_crowded, is_wild, place_error, refused, soa_error, tree_error};
+ghost use Rattle.dns_zone_tree.specs.TreeErrors.{Makes, has_defect, has_wild_servers, is_crowded, is_wild, place_error, refused, soa_error, tree_error};
 
 use crate::error::TreeError;
 use crate::keys::names_of;
@@ -23,7 +23,7 @@ use std::alloc::Global;
 /// How many octets a record takes at most.
 const RECORD_LIMIT: usize = 65000;
 
-/// What is looked for among the records of a list.
+/// The defects of a list of records that are found in one pass.
 #[derive(Clone, Copy)]
 pub(crate) enum RecordDefect {
     /// An owner that doesn't end with the apex.
@@ -41,10 +41,10 @@ pub(crate) enum RecordDefect {
 }
 
 impl RecordDefect {
-    /// Whether a record has it, where the apex is this name.
+    /// Whether a record has it, if the apex is this name.
     fn is_in(self, apex: &Name, resource: &Record) -> bool
         requires { IsLawful resource.now.rdata }
-        ensures { result ≡ has_fault self apex.now resource.now }
+        ensures { result ≡ has_defect self apex.now resource.now }
     {
         match self {
             RecordDefect::OutsideApex => is_outside(apex, resource),
@@ -86,7 +86,7 @@ fn is_wild(name: &Name) -> bool
 /// The place of the first record that has a fault.
 fn first_with(fault: RecordDefect, apex: &Name, records: &[Record]) -> Option<usize>
     requires { AreLawful records.now }
-    ensures { result ≡ position (has_fault fault apex.now) records.now }
+    ensures { result ≡ position (has_defect fault apex.now) records.now }
 {
     'each: for (index, record) in records.iter().enumerate() {
         if fault.is_in(apex, record) {
@@ -126,7 +126,7 @@ fn check_places(apex: &Name, records: &[Record]) -> Result<(), TreeError>
     Ok(())
 }
 
-/// Refuses a list for the number of SOA records, or for a cause that comes behind.
+/// Refuses a list for the number of SOA records, or for a cause that comes after.
 fn check_soa(apex: &Name, records: &[Record]) -> Result<(), TreeError>
     requires { AreLawful records.now }
     ensures { result ≡ refused (soa_error apex.now records.now) }
@@ -147,7 +147,7 @@ fn check_soa(apex: &Name, records: &[Record]) -> Result<(), TreeError>
     Ok(())
 }
 
-/// Whether a name has more records than one beside RRSIG and NSEC.
+/// Whether a name has more records than one besides RRSIG and NSEC.
 fn has_others(kinds: &Kinds) -> bool
     ensures { result ≡ nat_lt 1 (length (kind_places 255 kinds.now) - length (kind_places 46 kinds.now) - length
         (kind_places 47 kinds.now)) }
@@ -158,7 +158,7 @@ fn has_others(kinds: &Kinds) -> bool
     all.saturating_sub(signatures).saturating_sub(denials) > 1
 }
 
-/// Whether a record is a CNAME whose owner has another record, but for RRSIG and NSEC.
+/// Whether a record is a CNAME whose owner has another record, except for RRSIG and NSEC.
 fn is_crowded(alloc: Global, names: &Names, resource: &Record) -> Result<bool, OutOfMemory>
     ensures { (rs : List Record) → KnowsNames names.now rs → IfOk result (λ b. b ≡ is_crowded rs resource.now) }
 {
@@ -172,7 +172,7 @@ fn is_crowded(alloc: Global, names: &Names, resource: &Record) -> Result<bool, O
     }
 }
 
-/// The place of the first CNAME whose owner has another record, but for RRSIG and NSEC.
+/// The place of the first CNAME whose owner has another record, except for RRSIG and NSEC.
 fn first_crowded(
     alloc: Global,
     names: &Names,

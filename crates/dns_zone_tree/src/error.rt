@@ -15,7 +15,7 @@ pub enum TreeError {
     Opt(usize),
     /// How many SOA records there are; a zone has one (RFC 1035, section 5.2).
     Soa(usize),
-    /// The SOA record, where its owner isn't the apex.
+    /// The SOA record, if its owner isn't the apex.
     SoaPlace(usize),
     /// The first NS record at a wildcard (RFC 4592, section 4.2).
     WildNs(usize),
@@ -23,7 +23,7 @@ pub enum TreeError {
     Long(usize),
     /// More than 4,294,967,295 records, or octets of the keys of their owners (`canonical_key` of dns_order).
     Large,
-    /// The first CNAME record whose owner has another record (RFC 1034, section 3.6.2), but for RRSIG and NSEC (RFC 4035,
+    /// The first CNAME record whose owner has another record (RFC 1034, section 3.6.2), except for RRSIG and NSEC (RFC 4035,
     /// section 2.5).
     Cname(usize),
     OutOfMemory,

@@ -17,7 +17,7 @@ use dns_name::OutOfMemory;
 use std::alloc::Global;
 use std::collections::BTreeSet;
 
-/// Adds a place to a set, where it is of a type.
+/// Adds a place to a set, if it is of a type.
 fn add_kind(set: &mut BTreeSet<usize>, kind: &TypedPlace, rtype: u16) -> Result<(), OutOfMemory>
     ensures { OnOk result ((i : ℕ) → contains nat_cmp set.new i
         ≡ (contains nat_cmp set.old i || list_any (nat_eq i) (places_of rtype (kind.now ∷ [])))) }
@@ -64,7 +64,7 @@ fn in_order(alloc: Global, set: &BTreeSet<usize>) -> Result<Vec<usize>, OutOfMem
     Ok(places)
 }
 
-/// The name that the data of a record is, where it is one.
+/// The name that the data of a record is, if it is one.
 pub fn record_target(resource: &Record) -> Option<&Name>
     ensures { option_copied result ≡ target resource.now.rdata }
 {
@@ -108,7 +108,7 @@ impl ZoneTree {
         }
     }
 
-    /// Adds the places of the addresses of the host that the record at a place names, where it is an NS record.
+    /// Adds the places of the addresses of the host that the record at a place names, if it is an NS record.
     fn add_server(
         &self,
         alloc: Global,

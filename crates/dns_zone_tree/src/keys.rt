@@ -22,7 +22,7 @@ use std::mem;
 /// How many records, and how many octets of keys, an index has at most.
 const LARGEST: usize = 4294967295;
 
-/// The keys of the owners of records, behind one another, and for each record where its key lies, its type and its place.
+/// The keys of the owners of records, after one another, and for each record where its key lies, its type and its place.
 #[derive(Drop)]
 struct Keys {
     octets: Vec<u8>,
@@ -30,7 +30,7 @@ struct Keys {
 }
 
 impl Keys {
-    /// No keys, with room for so many records.
+    /// No keys, with room for that many records.
     fn new(alloc: Global, count: usize) -> Result<Keys, OutOfMemory>
         ensures octets { IfOk result (λ k. k.octets.items ≡ []) }
         ensures keyed { IfOk result (λ k. k.keyed.items ≡ []) }
@@ -94,7 +94,7 @@ fn sort_keys(octets: &[u8], keyed: &mut Vec<Keyed>) -> Result<(), OutOfMemory>
     Ok(())
 }
 
-/// Whether the next key, where there is one, is another.
+/// Whether the next key, if there is one, is another.
 fn is_last(octets: &[u8], span: Span, behind: &[Keyed]) -> bool
     ensures { result ≡ is_last octets.now (key_of octets.now span) behind.now }
 {
@@ -112,7 +112,7 @@ struct Joining {
 }
 
 impl Joining {
-    /// No nodes, with room for so many.
+    /// No nodes, with room for that many.
     fn new(alloc: Global, count: usize) -> Result<Joining, OutOfMemory>
         ensures nodes { IfOk result (λ j. j.nodes.items ≡ []) }
         ensures pending { IfOk result (λ j. j.pending.places.items ≡ []) }
@@ -122,7 +122,7 @@ impl Joining {
         Ok(Joining { nodes, pending })
     }
 
-    /// Makes the node of a key of the places that have none.
+    /// Makes a node of a key, with the places of the records that have no node yet.
     fn close(&mut self, span: Span) -> Result<(), OutOfMemory>
         ensures nodes { OnOk result (self.new.nodes.items
             ≡ self.old.nodes.items ++ (record { span = span; kinds = self.old.pending }) ∷ []) }
@@ -133,7 +133,7 @@ impl Joining {
         Ok(())
     }
 
-    /// Joins one record more, of which those behind it are given.
+    /// Joins one record more, of which those after it are given.
     fn push(
         &mut self,
         alloc: Global,

@@ -23,7 +23,7 @@ pub struct TypedPlace {
     place: u32,
 }
 
-/// The record at a place, where there is one.
+/// The record at a place, if there is one.
 pub fn record_at(records: &[Record], place: usize) -> Option<&Record>
     ensures { option_copied result ≡ slice_get records.now place }
 {
@@ -45,7 +45,7 @@ impl TypedPlace {
         rtype == ANY || self.rtype == rtype
     }
 
-    /// The place, where the record has a type.
+    /// The place, if the record has a type.
     pub(crate) fn of_type(&self, rtype: u16) -> Option<usize>
         ensures { MatchOption result (places_of rtype (self.now ∷ []) ≡ []) (λ p. places_of rtype (self.now ∷ []) ≡ p ∷ []) }
     {
@@ -55,7 +55,7 @@ impl TypedPlace {
         None
     }
 
-    /// The record of a list at the place, where it has a type.
+    /// The record of a list at the place, if it has a type.
     pub fn record<'a>(&self, records: &'a [Record], rtype: u16) -> Option<&'a Record>
         ensures value { MatchOption result (at_places records.now (places_of rtype (self.now ∷ [])) ≡ [])
             (λ r. at_places records.now (places_of rtype (self.now ∷ [])) ≡ r.now ∷ []) }
@@ -94,7 +94,7 @@ impl Kinds {
         Ok(Kinds { places })
     }
 
-    /// Keeps a place behind the others.
+    /// Keeps a place after the others.
     pub(crate) fn push(&mut self, alloc: Global, kind: TypedPlace) -> Result<(), OutOfMemory>
         ensures { OnOk result (self.new.places.items ≡ self.old.places.items ++ kind ∷ []) }
     {

@@ -8,7 +8,7 @@
 //! - `Kinds` are the places of the records of one name, with their types (`TypedPlace`).
 //!
 //! `Zone` of dns_zone is a single service over such a list; a `ZoneTree` is what the reply of a name server is made
-//! from, in dns_name_server. Its index has the keys of all owners behind one another, and a node of some 40 octets for
+//! from, in dns_name_server. Its index has the keys of all owners after one another, and a node of some 40 octets for
 //! each name that owns records. A name above one exists without a node: its key begins the next one.
 //!
 //! ```text

@@ -1,4 +1,4 @@
-//! What is kept of a zone beside its index: the places of the records of its apex, and the SOA record of negative answers.
+//! What is kept of a zone besides its index: the places of the records of its apex, and the SOA record of negative answers.
 
 ghost use Rattle.std.specs.Prelude.{◌≡◌, [], ◌∷◌, ℕ, length, map, IfOk};
 ghost use Rattle.std.specs.List.{filter};

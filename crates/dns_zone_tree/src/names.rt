@@ -30,7 +30,7 @@ pub(crate) struct Node {
     pub(crate) kinds: Kinds,
 }
 
-/// The keys of the names that own records, behind one another, and the nodes of these names in the order of the keys.
+/// The keys of the names that own records, after one another, and the nodes of these names in the order of the keys.
 #[derive(Drop)]
 pub(crate) struct Names {
     pub(crate) octets: Vec<u8>,
@@ -48,7 +48,7 @@ impl Model for Names {
     ghost invariant = { λ n. AreOrdered n.octets.items n.nodes.items };
 }
 
-/// The octets of a key; none where it doesn't lie among the octets.
+/// The octets of a key; none if it doesn't lie among the octets.
 pub(crate) fn key_of(octets: &[u8], span: Span) -> &[u8]
     ensures { result.now ≡ key_of octets.now span }
 {
@@ -73,14 +73,14 @@ fn count_before(octets: &[u8], nodes: &[Node], key: &[u8]) -> usize
     nodes.partition_point(|node| is_before(octets, node, key))
 }
 
-/// The node at a place, where there is one.
+/// The node at a place, if there is one.
 fn node_at(nodes: &[Node], place: usize) -> Option<&Node>
     ensures { option_copied result ≡ slice_get nodes.now place }
 {
     nodes.get(place)
 }
 
-/// What is kept of a key: what is there where a node's key is it, and nothing where that only begins with it, as the key of a name
+/// What is kept of a key: what is there if a node's key is it, and nothing if that only begins with it, as the key of a name
 /// below does.
 fn kinds_by<'a>(own: &[u8], key: &[u8], kinds: &'a Kinds, none: &'a Kinds) -> Option<&'a Kinds>
     ensures { option_copied result ≡ kinds_by own.now key.now kinds.now none.now }
@@ -95,7 +95,7 @@ fn kinds_by<'a>(own: &[u8], key: &[u8], kinds: &'a Kinds, none: &'a Kinds) -> Op
 }
 
 impl Names {
-    /// What is kept of the name of a key, where it exists. The first node that doesn't come before the key says it.
+    /// What is kept of the name of a key, if it exists. The first node that doesn't come before the key says it.
     pub(crate) fn kinds_at(&self, key: &[u8]) -> Option<&Kinds>
         ensures { option_copied result ≡ kinds_under self.now key.now }
     {

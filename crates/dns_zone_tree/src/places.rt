@@ -18,7 +18,7 @@ struct Marks {
     dname: bool,
 }
 
-/// Places behind their marks: up to two of them lie in the value.
+/// Places after their marks: up to two of them lie in the value.
 #[derive(Drop)]
 enum Stored {
     Few(Marks, ArrayVec<TypedPlace, 2>),
@@ -67,7 +67,7 @@ fn copied(few: &ArrayVec<TypedPlace, 2>) -> ArrayVec<TypedPlace, 2>
     }
 }
 
-/// Places and one more, where no more of them lie in the value.
+/// Places and one more, if no more of them lie in the value.
 fn moved(
     alloc: Global,
     few: &[TypedPlace],
@@ -114,7 +114,7 @@ impl Places {
         }
     }
 
-    /// Stores a place behind the others.
+    /// Stores a place after the others.
     pub(crate) fn push(&mut self, alloc: Global, kind: TypedPlace) -> Result<(), OutOfMemory>
         ensures { OnOk result (self.new.items ≡ self.old.items ++ kind ∷ []) }
     {

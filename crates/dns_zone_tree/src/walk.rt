@@ -38,7 +38,7 @@ fn star_key(alloc: Global, above: &NameRef<'_>) -> Result<Vec<u8>, OutOfMemory>
     Ok(key)
 }
 
-/// Whether a name is a cut: it has NS records, and it isn't the name itself where DS is asked for.
+/// Whether a name is a cut: it has NS records, and it isn't the name itself if DS is asked for.
 fn is_cut(kinds: &Kinds, left: usize, rtype: u16) -> bool
     ensures { MatchBool result (HasServers left rtype kinds.now) (HasNoServers left rtype kinds.now) }
 {
@@ -49,7 +49,7 @@ fn is_cut(kinds: &Kinds, left: usize, rtype: u16) -> bool
 }
 
 impl ZoneTree {
-    /// The places of the records of a name, where it exists.
+    /// The places of the records of a name, if it exists.
     pub(crate) fn node(
         &self,
         alloc: Global,
@@ -61,7 +61,7 @@ impl ZoneTree {
         Ok(self.names.kinds_at(key.as_slice()))
     }
 
-    /// The places of the records of the wildcard below a name, where it exists.
+    /// The places of the records of the wildcard below a name, if it exists.
     pub fn wildcard(
         &self,
         alloc: Global,
@@ -81,7 +81,7 @@ impl ZoneTree {
         name.label_count() - self.apex.label_count()
     }
 
-    /// Walks from the apex to a name below it or to itself, where a type is asked for.
+    /// Walks from the apex to a name below it or to itself, if a type is asked for.
     pub fn walk(
         &self,
         alloc: Global,

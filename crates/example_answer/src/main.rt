@@ -82,7 +82,7 @@ fn received(alloc: Global, octets: &[u8]) -> anyhow::Result<Request<()>> {
     Ok(Request::new(alloc, sender, 0, 0, query, transport, ())?)
 }
 
-/// The octets of the first reply to a request, where it comes at once.
+/// The octets of the first reply to a request, if it comes at once.
 fn first_reply<S: Service<()>>(
     alloc: Global,
     service: &S,

@@ -24,7 +24,7 @@ address_record name address = record { owner = name; rtype = 1; class = 1; ttl =
 abbrev pub authoritative : Built → Built
 authoritative b = with_header b (record b.message.header { aa = true })
 
--- what is built as a reply, or the error SERVFAIL where it passes its limit
+-- what is built as a reply, or the error SERVFAIL if it passes its limit
 abbrev pub replied_within : Built → Item
 replied_within b = if within_limit b then Ok (record { response = Some b.message; feedback = None }) else Err InternalError
 

@@ -12,7 +12,7 @@ use std::sync::Wait;
 const QUERY: &[u8] =
     b"\x12\x34\x01\x00\x00\x01\x00\x00\x00\x00\x00\x01\x00\x00\x01\x00\x01\x00\x00\x29\x04\xd0\x00\x00\x00\x00\x00\x00";
 
-/// A query for the root's IPv6 address behind its length in two octets, as it goes over TCP (RFC 1035, section 4.2.2).
+/// A query for the root's IPv6 address after its length in two octets, as it goes over TCP (RFC 1035, section 4.2.2).
 const FRAME: &[u8] =
     b"\x00\x1c\x12\x34\x01\x00\x00\x01\x00\x00\x00\x00\x00\x01\x00\x00\x1c\x00\x01\x00\x00\x29\x04\xd0\x00\x00\x00\x00\x00\x00";
 
@@ -49,7 +49,7 @@ impl Client {
         })
     }
 
-    /// Asks over UDP and over TCP, and shuts both servers down whatever came. The replies are empty where none came.
+    /// Asks over UDP and over TCP, and shuts both servers down whatever came. The replies are empty if none came.
     pub(crate) fn ask_and_end<R: Wait>(self, rt: &R, alloc: Global) -> (Vec<u8>, Vec<u8>) {
         let Client {
             sock,

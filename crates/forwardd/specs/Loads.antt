@@ -1,4 +1,4 @@
--- How busy a client's connection is: it takes one request more where fewer wait for their responses than may, and fewer than 65,536
+-- How busy a client's connection is: it takes one request more if fewer wait for their responses than may, and fewer than 65,536
 -- octets wait to be written; and once it is idle for too long, it is closed (RFC 7766, section 6.2.3).
 use Rattle.std.specs.Prelude.{ℕ, ◌+◌, ◌&&◌, min, nat_lt, Bool, if◌then◌else◌, Option, Some, None}
 use Rattle.forwardd.specs.declared.client.Load.{Load}

@@ -20,6 +20,6 @@ order_of ws =
     (if bytes_eq (slice_index_or ws 1 []) (codes "ctl") then control_order (slice_index_or ws 3 []) else None)
     else None
 
--- the path of a configuration: behind the program's name, or behind `check` or `ctl`
+-- the path of a configuration: after the program's name, or after `check` or `ctl`
 abbrev pub path_in : List (List ℕ) → List ℕ
 path_in ws = if length ws == 2 then slice_index_or ws 1 [] else slice_index_or ws 2 []

@@ -18,7 +18,7 @@ use std::net::{Net, SocketAddr};
 use std::random::RandomSource;
 use std::rt;
 
-/// The first question of a message, where it can be read.
+/// The first question of a message, if it can be read.
 pub(crate) fn question_of(alloc: Global, octets: &[u8]) -> Result<Option<Question>, OutOfMemory> {
     match MessageRef::from_slice(octets) {
         Ok(message) => match message.first_question() {
@@ -36,7 +36,7 @@ fn gives_up(event: &LookupEvent, outcome: &QueryOutcome) -> bool {
 }
 
 impl<R: Net + rt::Clock + RandomSource + Copy> Forwarder<R> {
-    /// Asks a server for the query at a place: from the port from which an equal message is asked already, or from a new one. Where an
+    /// Asks a server for the query at a place: from the port from which an equal message is asked already, or from a new one. If an
     /// equal question is asked otherwise, the query waits for a tick.
     pub(crate) fn ask(
         &mut self,
@@ -53,7 +53,7 @@ impl<R: Net + rt::Clock + RandomSource + Copy> Forwarder<R> {
         self.send(place, octets)
     }
 
-    /// Sends what the query at a place is asked by: again from its port, where it is the first there; or from a port that it joins or
+    /// Sends what the query at a place is asked by: again from its port, if it is the first there; or from a port that it joins or
     /// opens.
     fn send(&mut self, place: usize, octets: Octets) -> Result<(), OutOfMemory> {
         let Some(Some(asked)) = self.places.get(place) else {
@@ -95,7 +95,7 @@ impl<R: Net + rt::Clock + RandomSource + Copy> Forwarder<R> {
         }
     }
 
-    /// The query at a place hears what comes to a port, where that asks its message.
+    /// The query at a place hears what comes to a port, if that asks its message.
     fn join(
         &mut self,
         number: usize,
@@ -112,7 +112,7 @@ impl<R: Net + rt::Clock + RandomSource + Copy> Forwarder<R> {
         Ok(())
     }
 
-    /// A socket for a server at a random port, which is listened to under the number of a port. None where none can be opened.
+    /// A socket for a server at a random port, which is listened to under the number of a port. None if none can be opened.
     fn open_socket(&mut self, number: usize, server: SocketAddr) -> Option<UdpSocket> {
         let mut socket = open_at_random(&self.machine, &mut self.rng, server)?;
         let token = self.clients.token_of(Source::Socket(number));
@@ -123,7 +123,7 @@ impl<R: Net + rt::Clock + RandomSource + Copy> Forwarder<R> {
         }
     }
 
-    /// A port for the query at a place, to be kept under a number. None where none can be opened.
+    /// A port for the query at a place, to be kept under a number. None if none can be opened.
     fn port_for(
         &mut self,
         number: usize,
@@ -156,7 +156,7 @@ impl<R: Net + rt::Clock + RandomSource + Copy> Forwarder<R> {
         Ok(())
     }
 
-    /// Opens a port for the query at a place, and sends its octets. Where none can be opened its ticks end it.
+    /// Opens a port for the query at a place, and sends its octets. If none can be opened its ticks end it.
     fn open_port(
         &mut self,
         place: usize,
@@ -227,7 +227,7 @@ impl<R: Net + rt::Clock + RandomSource + Copy> Forwarder<R> {
         self.hear_on(number);
     }
 
-    /// What is still there at a port is registered again.
+    /// Registers the socket of a port again, so that datagrams that are still there are reported.
     fn hear_on(&mut self, number: usize) {
         let token = self.clients.token_of(Source::Socket(number));
         if let Some(Some(port)) = self.ports.get_mut(number) {
@@ -306,7 +306,7 @@ impl<R: Net + rt::Clock + RandomSource + Copy> Forwarder<R> {
         }
     }
 
-    /// Does what an event of the query at a place led to. What can't be sent for want of memory is lost, as it may be on its way.
+    /// Does what an event of the query at a place led to. What can't be sent because memory ran out is lost, as it may be on its way.
     fn follow(&mut self, place: usize, outcome: QueryOutcome) {
         match outcome {
             QueryOutcome::Nothing => {}
@@ -339,7 +339,7 @@ impl<R: Net + rt::Clock + RandomSource + Copy> Forwarder<R> {
         }
     }
 
-    /// Ends the query at a place: its client is sent this, where there is something. A port from which no query is asked any more is
+    /// Ends the query at a place: its client is sent this, if there is something. A port from which no query is asked any more is
     /// closed.
     fn end(&mut self, place: usize, octets: Option<Octets>) {
         let Some(kept) = self.places.get_mut(place) else {

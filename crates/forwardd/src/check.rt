@@ -29,7 +29,7 @@ fn upstream_line(alloc: Global, entry: &UpstreamEntry) -> anyhow::Result<String>
     Ok(line)
 }
 
-/// Says where is listened.
+/// Writes the addresses at which it listens.
 fn say_addresses(rt: &HostRuntime, endpoints: &[Endpoint]) -> anyhow::Result<()> {
     for endpoint in endpoints {
         let addr = to_std(endpoint.address);
@@ -47,7 +47,7 @@ fn say_upstreams(rt: &HostRuntime, entries: &[UpstreamEntry]) -> anyhow::Result<
     Ok(())
 }
 
-/// Judges a configuration as a start does, without opening a socket. Says where is listened, within which limits, and which servers are
+/// Judges a configuration as a start does, without opening a socket. Writes the addresses at which it would listen, the limits, and which servers are
 /// asked.
 fn judge(rt: &HostRuntime, config: &Config) -> anyhow::Result<()> {
     upstreams_of(rt.alloc(), config, Seed::fixed())?;

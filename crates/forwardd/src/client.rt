@@ -9,7 +9,7 @@ use std::alloc::Global;
 use std::io;
 use std::net::SocketAddr;
 
-/// How many octets may wait to be written over a connection where one request more is taken.
+/// How many octets may wait to be written over a connection if one request more is taken.
 const UNWRITTEN: usize = 65_536;
 
 /// A client that is to be sent something.
@@ -46,7 +46,7 @@ pub(crate) struct Load {
 }
 
 impl Load {
-    /// One request more may be taken where so many octets wait to be written.
+    /// One request more may be taken if that many octets wait to be written.
     pub(crate) fn has_room(&self, unwritten: usize) -> bool
         ensures { result ≡ has_room unwritten self.now }
     {
@@ -96,7 +96,7 @@ impl ClientConnection {
         self.load.has_room(self.connection.unwritten())
     }
 
-    /// The next request, where there is room for one.
+    /// The next request, if there is room for one.
     pub(crate) fn next(&mut self, alloc: Global, at: u64) -> Got {
         if self.connection.write(alloc).is_err() {
             return Got::Lost;
@@ -112,7 +112,7 @@ impl ClientConnection {
         got
     }
 
-    /// A request is answered by this, where there is something, which is written as far as there is room. Whether the connection is to be
+    /// A request is answered by this, if there is something, which is written as far as there is room. Whether the connection is to be
     /// read again is given.
     pub(crate) fn answer(
         &mut self,

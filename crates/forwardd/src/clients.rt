@@ -14,8 +14,8 @@ use std::io;
 use std::io::ErrorKind;
 use std::net::SocketAddr;
 
-/// After how many ms connections are taken again where taking them failed.
-const PAUSE: u64 = 100;
+/// After how many ms connections are taken again if taking them failed.
+const REPOLL_MS: u64 = 100;
 
 /// Whether a moment, if there is one, has come.
 fn is_due(due: Option<u64>, at: u64) -> bool {
@@ -32,7 +32,7 @@ pub(crate) struct Waiting {
     pub(crate) octets: Octets,
 }
 
-/// The sockets at which clients are listened to, their connections, and their messages that wait, of which there may be so many.
+/// The sockets at which clients are listened to, their connections, and their messages that wait, of which there may be that many.
 #[derive(Drop)]
 pub(crate) struct Clients {
     listeners: Vec<Listener>,
@@ -42,7 +42,7 @@ pub(crate) struct Clients {
 }
 
 impl Clients {
-    /// At these listeners, without connections. So many messages may wait.
+    /// At these listeners, without connections. That many messages may wait.
     pub(crate) fn new(
         alloc: Global,
         listeners: Vec<Listener>,
@@ -98,7 +98,7 @@ impl Clients {
 
     // ---- connections
 
-    /// A connection that came at a listener, if there is one. Taking it may fail where the client went away, and where the system has no
+    /// A connection that came at a listener, if there is one. Taking it may fail if the client went away, and if the system has no
     /// descriptor or memory for it.
     fn accepted(&self, listener: usize) -> io::Result<Option<(TcpStream, SocketAddr)>> {
         let Some(kept) = self.listeners.get(listener) else {
@@ -111,7 +111,7 @@ impl Clients {
         }
     }
 
-    /// Takes a connection that came at a listener at a moment, if there is one: whether it is kept. Where there may be no more, it is
+    /// Takes a connection that came at a listener at a moment, if there is one: whether it is kept. If there may be no more, it is
     /// closed at once.
     pub(crate) fn accept(
         &mut self,
@@ -134,7 +134,7 @@ impl Clients {
     /// The connections at a listener are taken again later, since taking them failed at a moment.
     pub(crate) fn accept_later(&mut self, listener: usize, at: u64) {
         if let Some(kept) = self.listeners.get_mut(listener) {
-            kept.again = Some(at.saturating_add(PAUSE));
+            kept.again = Some(at.saturating_add(REPOLL_MS));
         }
     }
 
@@ -230,7 +230,7 @@ impl Clients {
         WhenFull::Fail
     }
 
-    /// A client's message waits behind the others.
+    /// A client's message waits after the others.
     pub(crate) fn wait_last(&mut self, client: Client, octets: Octets) -> Result<(), OutOfMemory> {
         self.waiting.push_back(Waiting { client, octets })?;
         Ok(())

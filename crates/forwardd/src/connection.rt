@@ -52,7 +52,7 @@ impl Connection {
         }
     }
 
-    /// A connection that was accepted, which is told under a token.
+    /// A connection that was accepted, which is reported under a token.
     pub(crate) fn accepted(
         alloc: Global,
         registry: &Registry,
@@ -89,7 +89,7 @@ impl Connection {
         self.unwritten.len()
     }
 
-    /// A message is to be written, behind its length (RFC 1035, section 4.2.2). Where this is refused the connection isn't to be used.
+    /// A message is to be written, after its length (RFC 1035, section 4.2.2). If this is refused the connection isn't to be used.
     pub(crate) fn queue(&mut self, message: &Octets) -> io::Result<()> {
         let octets = message.as_slice();
         let Ok(length) = u16::try_from(octets.len()) else {

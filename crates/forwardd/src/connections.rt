@@ -38,7 +38,7 @@ pub(crate) fn sooner(first: Option<u64>, second: Option<u64>) -> Option<u64> {
     }
 }
 
-/// A stream is registered again once it can be read or written.
+/// Registers a stream again, so that it is reported if it can be read or written.
 fn register_again(registry: &Registry, token: Token, kept: &mut ClientConnection) {
     let interests = Interest::READABLE | Interest::WRITABLE;
     let stream = kept.connection.stream();
@@ -138,7 +138,7 @@ impl Connections {
         }
     }
 
-    /// The connection of a number is registered again under its token.
+    /// Registers the connection of a number again under its token.
     pub(crate) fn read_on(&mut self, registry: &Registry, token: Token, number: usize) {
         if let Some(Some(kept)) = self.kept.get_mut(number) {
             register_again(registry, token, kept);
@@ -162,7 +162,7 @@ impl Connections {
         kept.answer(self.alloc, octets, at)
     }
 
-    /// Answers a request of a connection by this, where there is something. One that fails is closed.
+    /// Answers a request of a connection by this, if there is something. One that fails is closed.
     pub(crate) fn reply(
         &mut self,
         registry: &Registry,

@@ -75,7 +75,7 @@ fn proxy_of(
     Ok(Proxy::new(alloc, front, dgram, config.limits.queries()))
 }
 
-/// The first so many octets, or all where there are fewer.
+/// The first that many octets, or all if there are fewer.
 pub(crate) fn first_octets(octets: &[u8], count: usize) -> &[u8]
     ensures { result.now ≡ take count octets.now }
 {
@@ -224,7 +224,7 @@ impl<R: Net + rt::Clock + RandomSource + Copy> Forwarder<R> {
         Ok(())
     }
 
-    /// Takes what came where a token stands for. Once the proxy is to end, no more datagrams and connections of clients are taken.
+    /// Takes what came at what a token stands for. Once the proxy is to end, no more datagrams and connections of clients are taken.
     fn take(&mut self, token: Token) {
         match self.clients.source_of(token) {
             Source::Datagrams(listener) => self.take_datagrams(listener),
@@ -268,7 +268,7 @@ impl<R: Net + rt::Clock + RandomSource + Copy> Forwarder<R> {
         self.clients.receive_on(self.poll.registry(), listener);
     }
 
-    /// Takes the connections of clients that came at a listener. Where that failed and some may be left, they are taken again later.
+    /// Takes the connections of clients that came at a listener. If that failed and some may be left, they are taken again later.
     fn take_connections(&mut self, listener: usize) {
         if self.is_stopping {
             return;
@@ -321,7 +321,7 @@ impl<R: Net + rt::Clock + RandomSource + Copy> Forwarder<R> {
 
     // ---- messages
 
-    /// Begins with a client's message, which waits behind the others where it is to. Without memory its client is sent nothing.
+    /// Begins with a client's message, which waits after the others if it is to. Without memory its client is sent nothing.
     fn begin(&mut self, client: Client, octets: Octets) {
         self.counts
             .count_message(client.is_stream(), octets.as_slice());
@@ -355,7 +355,7 @@ impl<R: Net + rt::Clock + RandomSource + Copy> Forwarder<R> {
         }
     }
 
-    /// Begins with a client's message, and gives it back where it is to wait. Nothing is sent for one that is no query.
+    /// Begins with a client's message, and gives it back if it is to wait. Nothing is sent for one that is no query.
     fn begun(&mut self, client: Client, octets: Octets) -> Result<Option<Octets>, OutOfMemory> {
         let drawn = self.drawn_for(octets.as_slice())?;
         match self
@@ -390,7 +390,7 @@ impl<R: Net + rt::Clock + RandomSource + Copy> Forwarder<R> {
         }
     }
 
-    /// Starts with a client's message, for which a server is asked, and gives it back where it is to wait.
+    /// Starts with a client's message, for which a server is asked, and gives it back if it is to wait.
     fn start(
         &mut self,
         client: Client,
@@ -413,14 +413,14 @@ impl<R: Net + rt::Clock + RandomSource + Copy> Forwarder<R> {
             Started::Short => self.reply(client, None),
             Started::Full => return Ok(Some(came.octets)),
             Started::Asks { place, octets } => {
-                // What can't be sent for want of memory is lost, as it may be on its way.
+                // What can't be sent because memory ran out is lost, as it may be on its way.
                 let _ = self.ask(place, Place::new(client, server, drawn), octets);
             }
         }
         Ok(None)
     }
 
-    /// What was drawn for a datagram's question where it is asked already, so that an equal message may be joined to it; or else what is
+    /// What was drawn for a datagram's question if it is asked already, so that an equal message may be joined to it; or else what is
     /// drawn now.
     fn drawn_for(&mut self, datagram: &[u8]) -> Result<Drawn, OutOfMemory> {
         if let Some(question) = question_of(self.alloc, datagram)? {

@@ -9,7 +9,7 @@ use mio::{Interest, Registry};
 use std::alloc::Global;
 use std::net::{Net, SocketAddr};
 
-/// The sockets of an address: for datagrams, and for connections; and when connections are taken again, where taking them failed.
+/// The sockets of an address: for datagrams, and for connections; and when connections are taken again, if taking them failed.
 #[derive(Drop)]
 pub(crate) struct Listener {
     pub(crate) datagrams: UdpSocket,
@@ -17,7 +17,7 @@ pub(crate) struct Listener {
     pub(crate) again: Option<u64>,
 }
 
-/// Opens the sockets of an address, and registers them under a number of so many.
+/// Opens the sockets of an address, and registers them under a number of that many.
 fn bind<N: Net>(
     net: &N,
     registry: &Registry,
@@ -56,7 +56,7 @@ pub(crate) fn bind_all<N: Net>(
     Ok(listeners)
 }
 
-/// Says where is listened.
+/// Says at which addresses it listens.
 pub(crate) fn say_listening(rt: &HostRuntime, endpoints: &[Endpoint]) -> anyhow::Result<()> {
     for endpoint in endpoints {
         let addr = to_std(endpoint.address);

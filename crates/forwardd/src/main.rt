@@ -20,14 +20,14 @@
 //!
 //! Nothing is sent for a response. A datagram for which there is no memory is lost, as it may be on its way. Over a
 //! connection requests are answered as their answers come (RFC 7766, section 6.2.1.1); it is read no more while as many of
-//! them wait for responses as may, and closed once it was idle for too long. Where the system has no descriptor
+//! them wait for responses as may, and closed once it was idle for too long. If the system has no descriptor
 //! for a connection, it is taken later. Once the proxy is to end, nothing more is taken of clients, and what waits is
 //! answered or given up.
 //!
 //! # What is proved
 //!
-//! - Each function is safe, and returns but for those that wait.
-//! - The status of the program: 0 where all was done, 1 with a line that says the fault, 2 for faulty words.
+//! - Each function is safe, and returns except for those that wait.
+//! - The status of the program: 0 if all was done, 1 with a line that says the fault, 2 for faulty words.
 //! - When a connection has room for one request more, and when it was idle for too long (`Load`).
 //! - A token stands for what it was made for (`token_of`).
 //! - What a client is sent is up to dns_proxy, dns_fronts, dns_upstreams and dns_outstanding, which have clauses.

@@ -11,10 +11,10 @@ use rand::rngs::StdRng;
 use std::alloc::{AllocError, Global};
 use std::net::{Net, SocketAddr};
 
-/// How many ports are tried at most, where one is taken already.
+/// How many ports are tried at most, if one is taken already.
 const TRIES: u32 = 16;
 
-/// A port from which a server is sent these octets for the queries at these places; and the connection in its place, where an answer
+/// A port from which a server is sent these octets for the queries at these places; and the connection in its place, if an answer
 /// was truncated.
 #[derive(Drop)]
 pub(crate) struct Port {
@@ -27,7 +27,7 @@ pub(crate) struct Port {
 }
 
 /// A socket for a server at a port from 1024 to 65535 that nobody can guess (RFC 5452, section 9.2; RFC 6056, section 3.2). None
-/// where each of the ports that were tried is taken, or no socket can be opened.
+/// if each of the ports that were tried is taken, or no socket can be opened.
 pub(crate) fn open_at_random<N: Net>(
     net: &N,
     rng: &mut StdRng,
@@ -71,7 +71,7 @@ impl Port {
         }
     }
 
-    /// What is still there is registered again.
+    /// Registers the socket again, so that datagrams that are still there are reported.
     pub(crate) fn hear_on(&mut self, registry: &Registry, token: Token) {
         if let Some(socket) = &mut self.socket {
             let _ = registry.reregister(socket, token, Interest::READABLE);
@@ -79,7 +79,7 @@ impl Port {
     }
 
     /// Opens a connection to the server in the place of the socket, on which these octets are written. One that can't be opened is as
-    /// one that nothing comes over. Where the socket is closed by now, there was one already.
+    /// one that nothing comes over. If the socket is closed by now, there was one already.
     pub(crate) fn connect<N: Net>(
         &mut self,
         net: &N,

@@ -19,7 +19,7 @@ use std::thread::Threads;
 /// How many events are taken at a time.
 const EVENTS: usize = 256;
 
-/// Opens the control socket, where one is named.
+/// Opens the control socket, if one is named.
 fn open_control<
     R: Net + Files + Clock + Threads + Wait + RandomSource + Copy + Send + Sync + 'static,
 >(
@@ -39,7 +39,7 @@ fn open_control<
     Ok(())
 }
 
-/// Opens the page of metrics, where it has an address, and gives that with the port that the system picked.
+/// Opens the page of metrics, if it has an address, and gives that with the port that the system picked.
 fn open_metrics<R: Net + Clock + RandomSource + Threads + Wait + Copy + Send + Sync + 'static>(
     machine: R,
     alloc: Global,

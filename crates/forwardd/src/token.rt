@@ -10,7 +10,7 @@ use mio::Token;
 pub(crate) enum Source {
     /// The socket of a listener for datagrams.
     Datagrams(usize),
-    /// Its socket for connections.
+    /// The socket of a listener for connections.
     Connections(usize),
     /// The socket of a port.
     Socket(usize),
@@ -20,7 +20,7 @@ pub(crate) enum Source {
     Client(usize),
 }
 
-/// What a token stands for, where there are so many listeners.
+/// What a token stands for, if there are that many listeners.
 pub(crate) fn source_of(listeners: usize, token: Token) -> Source
     ensures { result ≡ source_of listeners token.0 }
 {

@@ -29,7 +29,7 @@ fn control_order(word: &str) -> Option<Order>
     None
 }
 
-/// What words ask for, the program's name first: of a path alone, behind `check`, or behind `ctl` and before an order. None where
+/// What words ask for, the program's name first: of a path alone, after `check`, or after `ctl` and before an order. None if
 /// they are faulty.
 pub(crate) fn order_of(words: &[String]) -> Option<Order>
     ensures { result ≡ order_of (map string_bytes words.now) }
@@ -46,7 +46,7 @@ pub(crate) fn order_of(words: &[String]) -> Option<Order>
     None
 }
 
-/// The path of the configuration: behind the program's name, or behind `check` or `ctl`.
+/// The path of the configuration: after the program's name, or after `check` or `ctl`.
 pub(crate) fn path_of(words: &[String]) -> &str
     ensures { 2 ≤ length words.now → result.now ≡ path_in (map string_bytes words.now) }
 {

@@ -65,7 +65,7 @@ ask AT SECS ADDR PORT HEX        of a cache
 
 const VERSION: &str = "nutscythe 0.1.0\n";
 
-/// The words of the command line behind the program's name. A word that isn't UTF-8 is a faulty command line.
+/// The words of the command line after the program's name. A word that isn't UTF-8 is a faulty command line.
 fn read_words(rt: &HostRuntime) -> Result<Vec<String>, Status> {
     match env::args(rt) {
         Ok(args) => words_of(rt.alloc(), args),

@@ -206,7 +206,7 @@ fn open_one<R: Net + rt::Clock + Copy>(
     Ok(workers)
 }
 
-/// So many workers, at least one, whose sockets share the address; at port 0 the system picks the port.
+/// That many workers, at least one, whose sockets share the address; at port 0 the system picks the port.
 fn open_several<R: Net + rt::Clock + Copy>(
     rt: R,
     alloc: Global,
@@ -224,7 +224,7 @@ fn open_several<R: Net + rt::Clock + Copy>(
     Ok(workers)
 }
 
-/// How many workers serve datagrams: one where the server is to end after a count, or where one socket takes datagrams over IPv4
+/// How many workers serve datagrams: one if the server is to end after a count, or if one socket takes datagrams over IPv4
 /// and IPv6; else one a processor.
 fn worker_count(rt: &impl Threads, addr: SocketAddr, count: u64) -> usize {
     if count != 0 || addr.ip == IpAddr::V6([0; 16]) {

@@ -9,13 +9,13 @@ use Rattle.dns_admission.specs.Machine.{new_state, reply_of, state_after}
 use Rattle.dns_events.specs.declared.look.Look.{Look as State}
 use Rattle.dns_events.specs.declared.settings.Settings.{Settings}
 use Rattle.dns_embed.specs.Connections.{configured, unless_closing}
-use Rattle.nutscythe_c.specs.declared.kept.Kept.{Kept}
-use Rattle.nutscythe_c.specs.declared.kept.Kept.TheVariants.{Connection as KeptConnection, Book as KeptBook}
+use Rattle.nutscythe_c.specs.declared.handle_value.HandleValue.{HandleValue}
+use Rattle.nutscythe_c.specs.declared.handle_value.HandleValue.TheVariants.{Connection as KeptConnection, Book as KeptBook}
 use Rattle.nutscythe_c.specs.declared.status.Status.{Status}
 use Rattle.nutscythe_c.specs.declared.status.Status.TheVariants.{Done, Nothing, Dropped, Close, NoMemory, NoHandle, OutOfRange}
 
 -- a book of the configurations in settings, of which no slot is taken
-abbrev pub OpensBook : Settings → Option Kept → Option Kept → Status → Type 0
+abbrev pub OpensBook : Settings → Option HandleValue → Option HandleValue → Status → Type 0
 OpensBook s before after Done = after ≡ Some (KeptBook (new_state s.dgram s.stream))
 OpensBook s before after NoMemory = after ≡ before
 OpensBook s before after t = ⊥
@@ -40,16 +40,16 @@ book_status (Version (Err e)) = OutOfRange
 book_status (Look look) = Done
 
 -- a book is called
-abbrev pub Called : Call → State → Option Kept → Status → Type 0
+abbrev pub Called : Call → State → Option HandleValue → Status → Type 0
 Called call s after t = (after ≡ Some (KeptBook (state_after s call))) × (t ≡ book_status (reply_of s call))
 
-abbrev pub Calls : Option Call → Option Kept → Option Kept → Status → Type 0
+abbrev pub Calls : Option Call → Option HandleValue → Option HandleValue → Status → Type 0
 Calls (Some call) (Some (KeptBook s)) after t = Called call s after t
 Calls (Some call) before after t = (t ≡ NoHandle) × (after ≡ before)
 Calls None before after t = (t ≡ OutOfRange) × (after ≡ before)
 
 -- a connection or a book takes the configurations in settings, unless the connection is to be closed
-abbrev pub Configures : Settings → Option Kept → Option Kept → Status → Type 0
+abbrev pub Configures : Settings → Option HandleValue → Option HandleValue → Status → Type 0
 Configures s (Some (KeptConnection c)) after t = (t ≡ Done)
     × (after ≡ Some (KeptConnection (unless_closing c (configured s.stream.connection_config c))))
 Configures s (Some (KeptBook b)) after t = Called (Reconfigure s.dgram s.stream) b after t

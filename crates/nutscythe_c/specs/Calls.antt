@@ -16,8 +16,8 @@ use Rattle.dns_embed.specs.declared.action.Arrival.{Arrival}
 use Rattle.dns_embed.specs.declared.rule.ReplyRule.{ReplyRule}
 use Rattle.dns_embed.specs.declared.verdict.KnownVerdict.{KnownVerdict}
 use Rattle.dns_embed.specs.Embedded.{IsDecided, IsExchanged, Refuses as IsErrorReply, composed_of, request_of, rewrite_by}
-use Rattle.nutscythe_c.specs.declared.kept.Kept.{Kept}
-use Rattle.nutscythe_c.specs.declared.kept.Kept.TheVariants.{Settings as KeptSettings}
+use Rattle.nutscythe_c.specs.declared.handle_value.HandleValue.{HandleValue}
+use Rattle.nutscythe_c.specs.declared.handle_value.HandleValue.TheVariants.{Settings as KeptSettings}
 use Rattle.nutscythe_c.specs.declared.origin.Origin.{Origin}
 use Rattle.nutscythe_c.specs.declared.rule.Rule.{Rule}
 use Rattle.nutscythe_c.specs.declared.status.Status.{Status}
@@ -88,12 +88,12 @@ DecidesIn s (Some arrival) None o w x t = Stays OutOfRange w x t
 DecidesIn s None known o w x t = Stays OutOfRange w x t
 
 -- by what a handle holds
-abbrev pub DecidesBy : Option Kept → Option Arrival → Option KnownVerdict → List ℕ → Output → Output → Status → Type 0
+abbrev pub DecidesBy : Option HandleValue → Option Arrival → Option KnownVerdict → List ℕ → Output → Output → Status → Type 0
 DecidesBy (Some (KeptSettings s)) arrival known o w x t = DecidesIn s arrival known o w x t
 DecidesBy kept arrival known o w x t = Stays NoHandle w x t
 
 -- by a length and a rule that may not be given
-abbrev pub DecidesAt : Option Kept → Option Arrival → Option KnownVerdict → List ℕ → List ℕ → List ℕ → List ℕ → List ℕ
+abbrev pub DecidesAt : Option HandleValue → Option Arrival → Option KnownVerdict → List ℕ → List ℕ → List ℕ → List ℕ → List ℕ
     → List Rule → List Rule → Status → Type 0
 DecidesAt kept arrival known o before after lens lens' rules rules' t =
     OfFirst lens lens' (λ n l. OfFirst rules rules' (λ r p.
@@ -108,12 +108,12 @@ ExchangesIn s origin (Some addr) (Some known) o w x t = Exchanges s known.verdic
 ExchangesIn s origin (Some addr) None o w x t = Stays OutOfRange w x t
 ExchangesIn s origin None known o w x t = Stays OutOfRange w x t
 
-abbrev pub ExchangesBy : Option Kept → Origin → Option SocketAddr → Option KnownVerdict → List ℕ → Output → Output → Status → Type 0
+abbrev pub ExchangesBy : Option HandleValue → Origin → Option SocketAddr → Option KnownVerdict → List ℕ → Output → Output → Status → Type 0
 ExchangesBy (Some (KeptSettings s)) origin addr known o w x t = ExchangesIn s origin addr known o w x t
 ExchangesBy kept origin addr known o w x t = Stays NoHandle w x t
 
 -- by a length and a rule that may not be given
-abbrev pub ExchangesAt : Option Kept → Origin → Option SocketAddr → Option KnownVerdict → List ℕ → List ℕ → List ℕ → List ℕ → List ℕ
+abbrev pub ExchangesAt : Option HandleValue → Origin → Option SocketAddr → Option KnownVerdict → List ℕ → List ℕ → List ℕ → List ℕ → List ℕ
     → List Rule → List Rule → Status → Type 0
 ExchangesAt kept origin addr known o before after lens lens' rules rules' t =
     OfFirst lens lens' (λ n l. OfFirst rules rules' (λ r p.

@@ -6,7 +6,7 @@ abbrev pub OfOne : {A : Type 0} → List A → (A → Type 0) → Type 0 → Typ
 OfOne [] given missing = missing
 OfOne (x ∷ xs) given missing = given x
 
--- a fact of the object before and after, and those behind it stay; or another fact if there is none
+-- a fact of the object before and after, and those after it stay; or another fact if there is none
 abbrev pub OfFirst : {A : Type 0} → List A → List A → (A → A → Type 0) → Type 0 → Type 0
 OfFirst [] after given missing = missing
 OfFirst {A} (x ∷ xs) after given missing = (y : A) × (after ≡ y ∷ xs) × given x y

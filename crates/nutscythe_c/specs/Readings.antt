@@ -4,14 +4,14 @@ use Rattle.dns_embed.specs.declared.reader.ItemSection.{ItemSection}
 use Rattle.dns_embed.specs.declared.reader.ItemSection.TheVariants.{Question, Answer, Authority, Additional}
 use Rattle.dns_embed.specs.declared.reader.ReadItem.TheVariants.{End, Item, NoRoom as TooShort, Unreadable as NotRead}
 use Rattle.dns_embed.specs.Reading.{Reading, Reads, reading_from}
-use Rattle.nutscythe_c.specs.declared.kept.Kept.{Kept}
-use Rattle.nutscythe_c.specs.declared.kept.Kept.TheVariants.{Reader as KeptReader}
+use Rattle.nutscythe_c.specs.declared.handle_value.HandleValue.{HandleValue}
+use Rattle.nutscythe_c.specs.declared.handle_value.HandleValue.TheVariants.{Reader as KeptReader}
 use Rattle.nutscythe_c.specs.declared.status.Status.{Status}
 use Rattle.nutscythe_c.specs.declared.status.Status.TheVariants.{Done, Nothing, NoMemory, NoHandle, NoRoom, Unreadable}
 use Rattle.nutscythe_c.specs.Calls.{Unwritten}
 
 -- a message is read from its first item on
-abbrev pub ReadsMessage : List ℕ → Option Kept → Option Kept → Status → Type 0
+abbrev pub ReadsMessage : List ℕ → Option HandleValue → Option HandleValue → Status → Type 0
 ReadsMessage o before after Done = after ≡ Some (KeptReader (reading_from o))
 ReadsMessage o before after Unreadable = (length o < 12) × (after ≡ before)
 ReadsMessage o before after NoMemory = after ≡ before
@@ -34,7 +34,7 @@ Takes r s before after len len' section section' Unreadable = Reads r s before a
 Takes r s before after len len' section section' NoMemory = (s ≡ r) × Unwritten before after len len' × (section' ≡ section)
 Takes r s before after len len' section section' t = ⊥
 
-abbrev pub TakesBy : Option Kept → Option Kept → List ℕ → List ℕ → ℕ → ℕ → ℕ → ℕ → Status → Type 0
+abbrev pub TakesBy : Option HandleValue → Option HandleValue → List ℕ → List ℕ → ℕ → ℕ → ℕ → ℕ → Status → Type 0
 TakesBy (Some (KeptReader r)) kept before after len len' section section' t = (s : Reading) × (kept ≡ Some (KeptReader s))
     × Takes r s before after len len' section section' t
 TakesBy held kept before after len len' section section' t = (t ≡ NoHandle) × (kept ≡ held)

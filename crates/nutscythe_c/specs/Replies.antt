@@ -15,8 +15,8 @@ use Rattle.dns_reply_builder.specs.declared.service_reply.ServiceReply.{ServiceR
 use Rattle.dns_reply_builder.specs.declared.service_reply.ServiceReply.TheVariants.{Begun, Rewritten, Lost}
 use Rattle.dns_reply_builder.specs.Held.{AddsOptionTo, AddsTo, BeginsReply, RewritesTo, rewritten_in}
 use Rattle.dns_reply_builder.specs.Replying.{plain_record}
-use Rattle.nutscythe_c.specs.declared.kept.Kept.{Kept}
-use Rattle.nutscythe_c.specs.declared.kept.Kept.TheVariants.{Reply as KeptReply}
+use Rattle.nutscythe_c.specs.declared.handle_value.HandleValue.{HandleValue}
+use Rattle.nutscythe_c.specs.declared.handle_value.HandleValue.TheVariants.{Reply as KeptReply}
 use Rattle.nutscythe_c.specs.declared.status.Status.{Status}
 use Rattle.nutscythe_c.specs.declared.status.Status.TheVariants.{Done, NoMemory, NoHandle, OutOfRange, Unreadable, TooLong}
 use Rattle.nutscythe_c.specs.Calls.{PutsReply, Unwritten}
@@ -33,14 +33,14 @@ abbrev pub rcode_of : ℕ → Option ℕ
 rcode_of n = if nat_lt 15 n then None else Some n
 
 -- a reply is begun and held
-abbrev pub BeginsHeld : List ℕ → ℕ → Bool → Option Kept → Option Kept → Status → Type 0
+abbrev pub BeginsHeld : List ℕ → ℕ → Bool → Option HandleValue → Option HandleValue → Status → Type 0
 BeginsHeld query rcode aa before after Done = (reply : ServiceReply) × BeginsReply query rcode aa (Some reply)
     × (after ≡ Some (KeptReply reply))
 BeginsHeld query rcode aa before after Unreadable = (length query < 12) × (after ≡ before)
 BeginsHeld query rcode aa before after NoMemory = after ≡ before
 BeginsHeld query rcode aa before after t = ⊥
 
-abbrev pub BeginsBy : List ℕ → Option ℕ → Bool → Option Kept → Option Kept → Status → Type 0
+abbrev pub BeginsBy : List ℕ → Option ℕ → Bool → Option HandleValue → Option HandleValue → Status → Type 0
 BeginsBy query (Some rcode) aa before after t = BeginsHeld query rcode aa before after t
 BeginsBy query None aa before after t = (t ≡ OutOfRange) × (after ≡ before)
 
@@ -65,19 +65,19 @@ added_status (Err Add.TooLong) = TooLong
 added_status (Err Add.OutOfMemory) = NoMemory
 
 -- a record is added to the reply that a handle holds
-abbrev pub AddsHeld : Section → ResourceRecord → Option Kept → Option Kept → Status → Type 0
+abbrev pub AddsHeld : Section → ResourceRecord → Option HandleValue → Option HandleValue → Status → Type 0
 AddsHeld section r (Some (KeptReply a)) after t =
     (b : ServiceReply) × (result : Result (Unit {0}) AddError) × (after ≡ Some (KeptReply b))
     × AddsTo section r a b result × (t ≡ added_status result)
 AddsHeld section r before after t = (t ≡ NoHandle) × (after ≡ before)
 
-abbrev pub AddsBy : Option Section → Result ResourceRecord Status → Option Kept → Option Kept → Status → Type 0
+abbrev pub AddsBy : Option Section → Result ResourceRecord Status → Option HandleValue → Option HandleValue → Status → Type 0
 AddsBy None r before after t = (t ≡ OutOfRange) × (after ≡ before)
 AddsBy (Some section) (Err u) before after t = (t ≡ u) × (after ≡ before)
 AddsBy (Some section) (Ok r) before after t = AddsHeld section r before after t
 
--- and so is an option
-abbrev pub AddsOption : ℕ → List ℕ → Option Kept → Option Kept → Status → Type 0
+-- an option is added to the reply that a handle holds
+abbrev pub AddsOption : ℕ → List ℕ → Option HandleValue → Option HandleValue → Status → Type 0
 AddsOption code d (Some (KeptReply a)) after t =
     (b : ServiceReply) × (result : Result (Unit {0}) AddError) × (after ≡ Some (KeptReply b))
     × AddsOptionTo code d a b result × (t ≡ added_status result)
@@ -92,7 +92,7 @@ unfoldable pub WritesReply : ReplyRule → ServiceReply → ServiceReply → Lis
 WritesReply rule a b before after len len' t = (result : Result (Unit {0}) NoneLeft) × RewritesTo rule a b result
     × ShowsReply (rewritten_in b) before after len len' t
 
-abbrev pub WritesBy : ReplyRule → Option Kept → Option Kept → List ℕ → List ℕ → ℕ → ℕ → Status → Type 0
+abbrev pub WritesBy : ReplyRule → Option HandleValue → Option HandleValue → List ℕ → List ℕ → ℕ → ℕ → Status → Type 0
 WritesBy rule (Some (KeptReply a)) kept before after len len' t = (b : ServiceReply) × (kept ≡ Some (KeptReply b))
     × WritesReply rule a b before after len len' t
 WritesBy rule held kept before after len len' t = (t ≡ NoHandle) × (kept ≡ held) × Unwritten before after len len'

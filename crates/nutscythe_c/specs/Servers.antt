@@ -2,8 +2,8 @@
 use Rattle.std.specs.Prelude.{ℕ, ◌≡◌, ◌&&◌, ◌||◌, Bool, nat_eq, nat_le, Option, Some, None, if◌then◌else◌}
 use Rattle.dns_events.specs.Config.{Connection, Dgram, Stream}
 use Rattle.dns_events.specs.declared.settings.Settings.{Settings}
-use Rattle.nutscythe_c.specs.declared.kept.Kept.{Kept}
-use Rattle.nutscythe_c.specs.declared.kept.Kept.TheVariants.{Settings as KeptSettings}
+use Rattle.nutscythe_c.specs.declared.handle_value.HandleValue.{HandleValue}
+use Rattle.nutscythe_c.specs.declared.handle_value.HandleValue.TheVariants.{Settings as KeptSettings}
 use Rattle.nutscythe_c.specs.declared.servers.Servers.{Servers}
 use Rattle.nutscythe_c.specs.declared.status.Status.{Status}
 use Rattle.nutscythe_c.specs.declared.status.Status.TheVariants.{Done, NoHandle, OutOfRange}
@@ -63,7 +63,7 @@ HasServers (Some d) (Some m) s after t = (t ≡ Done) × (after ≡ record s { d
 HasServers (Some d) None s after t = (t ≡ OutOfRange) × (after ≡ s)
 HasServers None m s after t = (t ≡ OutOfRange) × (after ≡ s)
 
-abbrev pub SetsServers : Servers → Option Kept → Option Kept → Status → Type 0
+abbrev pub SetsServers : Servers → Option HandleValue → Option HandleValue → Status → Type 0
 SetsServers n (Some (KeptSettings s)) after t = (made : Settings) × (after ≡ Some (KeptSettings made))
     × HasServers (dgram_of n) (stream_of n) s made t
 SetsServers n before after t = (t ≡ NoHandle) × (after ≡ before)

@@ -6,8 +6,8 @@ use Rattle.dns_events.specs.declared.settings.Settings.{Settings}
 use Rattle.dns_trace.specs.declared.reason.Reason.{Reason}
 use Rattle.dns_trace.specs.declared.reason.Reason.TheVariants.{Text, Word, Order, Mix, Repeat, Count, Value, Zone}
 use Rattle.dns_embed.specs.SettingsText.{settings_in}
-use Rattle.nutscythe_c.specs.declared.kept.Kept.{Kept}
-use Rattle.nutscythe_c.specs.declared.kept.Kept.TheVariants.{Settings as KeptSettings}
+use Rattle.nutscythe_c.specs.declared.handle_value.HandleValue.{HandleValue}
+use Rattle.nutscythe_c.specs.declared.handle_value.HandleValue.TheVariants.{Settings as KeptSettings}
 use Rattle.nutscythe_c.specs.declared.settings.LineRefusal.{LineRefusal}
 use Rattle.nutscythe_c.specs.declared.status.Status.{Status}
 use Rattle.nutscythe_c.specs.declared.status.Status.TheVariants.{Done, NoMemory, NoHandle, OutOfRange, BadLine}
@@ -16,7 +16,7 @@ use Rattle.nutscythe_c.specs.declared.status.Status.TheVariants.{Done, NoMemory,
 abbrev pub made : Bool → Bool → Settings
 made strict edns = record { strict = strict; edns = edns; cookies = None; denied = []; dgram = default_dgram; stream = default_stream }
 
-abbrev pub MakesSettings : Bool → Bool → Option Kept → Option Kept → Status → Type 0
+abbrev pub MakesSettings : Bool → Bool → Option HandleValue → Option HandleValue → Status → Type 0
 MakesSettings strict edns before after Done = after ≡ Some (KeptSettings (made strict edns))
 MakesSettings strict edns before after NoMemory = after ≡ before
 MakesSettings strict edns before after t = ⊥
@@ -33,7 +33,7 @@ reason_number Value = 6
 reason_number Zone = 7
 
 -- the settings of a text are held, or its first bad line is said
-abbrev pub ReadsText : List ℕ → Option Kept → Option Kept → LineRefusal → LineRefusal → Status → Type 0
+abbrev pub ReadsText : List ℕ → Option HandleValue → Option HandleValue → LineRefusal → LineRefusal → Status → Type 0
 ReadsText text before after b c Done = (s : Settings) × (settings_in text ≡ Ok s) × (after ≡ Some (KeptSettings s)) × (c ≡ b)
 ReadsText text before after b c BadLine = (r : Reason) × (settings_in text ≡ Err (c.line, r)) × (c.reason ≡ reason_number r)
     × (after ≡ before)
@@ -45,7 +45,7 @@ abbrev pub HasSecret : Bool → List ℕ → Settings → Settings → Status �
 HasSecret true secret s after t = (t ≡ Done) × (after ≡ record s { cookies = Some secret })
 HasSecret false secret s after t = (t ≡ OutOfRange) × (after ≡ s)
 
-abbrev pub SetsCookies : List ℕ → Option Kept → Option Kept → Status → Type 0
+abbrev pub SetsCookies : List ℕ → Option HandleValue → Option HandleValue → Status → Type 0
 SetsCookies secret (Some (KeptSettings s)) after t = (made : Settings) × (after ≡ Some (KeptSettings made))
     × HasSecret (length secret == 16) secret s made t
 SetsCookies secret before after t = (t ≡ NoHandle) × (after ≡ before)
@@ -57,13 +57,13 @@ PushesDenied (Some ip) before after NoMemory = after ≡ before
 PushesDenied (Some ip) before after t = ⊥
 PushesDenied None before after t = (t ≡ OutOfRange) × (after ≡ before)
 
-abbrev pub Denies : Option IpAddr → Option Kept → Option Kept → Status → Type 0
+abbrev pub Denies : Option IpAddr → Option HandleValue → Option HandleValue → Status → Type 0
 Denies ip (Some (KeptSettings s)) after t = (denied : List IpAddr) × (after ≡ Some (KeptSettings (record s { denied = denied })))
     × PushesDenied ip s.denied denied t
 Denies ip before after t = (t ≡ NoHandle) × (after ≡ before)
 
 -- another handle holds the same settings
-abbrev pub Copies : Settings → Option Kept → Option Kept → Status → Type 0
+abbrev pub Copies : Settings → Option HandleValue → Option HandleValue → Status → Type 0
 Copies s before after Done = after ≡ Some (KeptSettings s)
 Copies s before after NoMemory = after ≡ before
 Copies s before after t = ⊥

@@ -9,8 +9,8 @@ use Rattle.dns_embed.specs.declared.connection.Connection.{Connection}
 use Rattle.dns_embed.specs.declared.transactions.Heard.{Heard}
 use Rattle.dns_embed.specs.declared.transactions.Heard.TheVariants.{Nothing as HeardNothing, Feedback, Failure}
 use Rattle.dns_embed.specs.Transactions.{enqueued_as, frame_in, giving, invoker_given, invoker_hearing}
-use Rattle.nutscythe_c.specs.declared.kept.Kept.{Kept}
-use Rattle.nutscythe_c.specs.declared.kept.Kept.TheVariants.{Connection as KeptConnection}
+use Rattle.nutscythe_c.specs.declared.handle_value.HandleValue.{HandleValue}
+use Rattle.nutscythe_c.specs.declared.handle_value.HandleValue.TheVariants.{Connection as KeptConnection}
 use Rattle.nutscythe_c.specs.declared.status.Status.{Status}
 use Rattle.nutscythe_c.specs.declared.status.Status.TheVariants.{Done, Nothing, Dropped, Held, NoMemory, NoHandle, OutOfRange, TooLong}
 
@@ -61,13 +61,13 @@ GivenTo at Normal h o c d n n' t = GivenBy c.is_closing at Normal h o c d n n' t
 GivenTo at InTransaction h o c d n n' t = GivenBy c.is_closing at InTransaction h o c d n n' t
 GivenTo at Aborting h o c d n n' t = (t ≡ Nothing) × (d ≡ c) × (n' ≡ n)
 
-abbrev pub GivesTo : ℕ → InvokerStatus → Heard → List ℕ → Option Kept → Option Kept → ℕ → ℕ → Status → Type 0
+abbrev pub GivesTo : ℕ → InvokerStatus → Heard → List ℕ → Option HandleValue → Option HandleValue → ℕ → ℕ → Status → Type 0
 GivesTo at state h o (Some (KeptConnection c)) after n n' t = (d : Connection) × (after ≡ Some (KeptConnection d))
     × GivenTo at state h o c d n n' t
 GivesTo at state h o before after n n' t = (t ≡ NoHandle) × (after ≡ before) × (n' ≡ n)
 
 -- by numbers that may be out of range
-abbrev pub GivesBy : ℕ → Option InvokerStatus → Option Heard → List ℕ → Option Kept → Option Kept → ℕ → ℕ → Status → Type 0
+abbrev pub GivesBy : ℕ → Option InvokerStatus → Option Heard → List ℕ → Option HandleValue → Option HandleValue → ℕ → ℕ → Status → Type 0
 GivesBy at (Some state) (Some h) o before after n n' t = GivesTo at state h o before after n n' t
 GivesBy at (Some state) None o before after n n' t = (t ≡ OutOfRange) × (after ≡ before) × (n' ≡ n)
 GivesBy at None h o before after n n' t = (t ≡ OutOfRange) × (after ≡ before) × (n' ≡ n)

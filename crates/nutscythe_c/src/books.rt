@@ -8,7 +8,7 @@ ghost use Rattle.nutscythe_c.specs.Objects.{OfFirst};
 ghost use Rattle.nutscythe_c.specs.Uses.{UsesBy};
 
 use crate::handle::Handle;
-use crate::kept::Kept;
+use crate::handle_value::HandleValue;
 use crate::status::Status;
 use crate::uses::{Use, use_at};
 use dns_admission::{Admission, BookState, Call, Reply};
@@ -33,7 +33,10 @@ pub extern "C" fn nutscythe_raw_book_open(
 pub(crate) fn open_book(alloc: Global, made: &Settings, book: &mut Handle) -> Status
     ensures { OpensBook made.now book.old.kept book.new.kept result }
 {
-    match book.hold(alloc, Kept::Book(BookState::new(made.dgram, made.stream))) {
+    match book.hold(
+        alloc,
+        HandleValue::Book(BookState::new(made.dgram, made.stream)),
+    ) {
         Ok(()) => Status::Done,
         Err(_) => Status::NoMemory,
     }
@@ -92,7 +95,7 @@ fn call_at(alloc: Global, book: &mut [Handle], call: Option<Call>) -> Status
         return Status::NoHandle;
     };
     let status = match &mut *kept {
-        Kept::Book(held) => book_status(held.call(&call)),
+        HandleValue::Book(held) => book_status(held.call(&call)),
         _ => Status::NoHandle,
     };
     book.put(kept);
@@ -122,11 +125,14 @@ pub(crate) fn configure(alloc: Global, made: &Settings, handle: &mut Handle) -> 
         return Status::NoHandle;
     };
     let status = match &mut *kept {
-        Kept::Connection(opened) => {
+        HandleValue::Connection(opened) => {
             opened.configure(&made.stream.connection_config());
             Status::Done
         }
-        Kept::Book(held) => book_status(Reply::Version(held.reconfigure(made.dgram, made.stream))),
+        HandleValue::Book(held) => book_status(Reply::Version(held.reconfigure(
+            made.dgram,
+            made.stream,
+        ))),
         _ => Status::NoHandle,
     };
     handle.put(kept);

@@ -7,7 +7,7 @@ ghost use Rattle.nutscythe_c.specs.Objects.{OfFirst};
 ghost use Rattle.nutscythe_c.specs.Streams.{Closed, Closes};
 
 use crate::handle::Handle;
-use crate::kept::Kept;
+use crate::handle_value::HandleValue;
 use crate::status::Status;
 use dns_embed::Connection;
 use std::alloc::Global;
@@ -32,7 +32,7 @@ fn close_at(alloc: Global, connection: &mut [Handle]) -> Status
         return Status::NoHandle;
     };
     let status = match &mut *kept {
-        Kept::Connection(opened) => close(alloc, opened),
+        HandleValue::Connection(opened) => close(alloc, opened),
         _ => Status::NoHandle,
     };
     connection.put(kept);

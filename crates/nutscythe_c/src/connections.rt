@@ -8,7 +8,7 @@ ghost use Rattle.nutscythe_c.specs.Streams.{Feeds, Fed, Fronts, Given, Gives, Of
 ghost use Rattle.nutscythe_c.specs.Uses.{UsesBy};
 
 use crate::handle::Handle;
-use crate::kept::Kept;
+use crate::handle_value::HandleValue;
 use crate::status::Status;
 use crate::uses::{Use, use_at};
 use dns_embed::{Connection, Next, Written, put};
@@ -39,7 +39,7 @@ pub(crate) fn open(alloc: Global, settings: &Settings, at: u64, connection: &mut
     let Ok(opened) = Connection::open(alloc, at, &config) else {
         return Status::NoMemory;
     };
-    match connection.hold(alloc, Kept::Connection(opened)) {
+    match connection.hold(alloc, HandleValue::Connection(opened)) {
         Ok(()) => Status::Done,
         Err(_) => Status::NoMemory,
     }
@@ -69,7 +69,7 @@ fn feed_at(alloc: Global, connection: &mut [Handle], octets: &[u8]) -> Status
         return Status::NoHandle;
     };
     let status = match &mut *kept {
-        Kept::Connection(opened) => feed(alloc, opened, octets),
+        HandleValue::Connection(opened) => feed(alloc, opened, octets),
         _ => Status::NoHandle,
     };
     connection.put(kept);
@@ -141,7 +141,7 @@ fn next_in(
         return Status::NoHandle;
     };
     let status = match &mut *kept {
-        Kept::Connection(opened) => next(alloc, opened, at, query, query_len),
+        HandleValue::Connection(opened) => next(alloc, opened, at, query, query_len),
         _ => Status::NoHandle,
     };
     connection.put(kept);
@@ -199,7 +199,7 @@ fn offer_at(alloc: Global, connection: &mut [Handle], at: u64, reply: &[u8]) -> 
         return Status::NoHandle;
     };
     let status = match &mut *kept {
-        Kept::Connection(opened) => offer(alloc, opened, at, reply),
+        HandleValue::Connection(opened) => offer(alloc, opened, at, reply),
         _ => Status::NoHandle,
     };
     connection.put(kept);
@@ -273,7 +273,7 @@ fn front_in(
         return Status::NoHandle;
     };
     let status = match &*kept {
-        Kept::Connection(opened) => show(opened, frame, frame_len),
+        HandleValue::Connection(opened) => show(opened, frame, frame_len),
         _ => Status::NoHandle,
     };
     connection.put(kept);
@@ -307,7 +307,7 @@ fn show(opened: &Connection, frame: &mut [u8], frame_len: &mut usize) -> Status
     }
 }
 
-/// The frame that was to be sent next was sent, at a moment in ms, in so many ms.
+/// The frame that was to be sent next was sent, at a moment in ms, in that many ms.
 #[unsafe(no_mangle)]
 pub extern "C" fn nutscythe_raw_connection_written(
     alloc: Global,
@@ -332,7 +332,7 @@ fn written_at(alloc: Global, connection: &mut [Handle], at: u64, took: u64) -> S
         return Status::NoHandle;
     };
     let status = match &mut *kept {
-        Kept::Connection(opened) => wrote(opened, at, took),
+        HandleValue::Connection(opened) => wrote(opened, at, took),
         _ => Status::NoHandle,
     };
     connection.put(kept);

@@ -8,7 +8,7 @@ ghost use Rattle.nutscythe_c.specs.Objects.{OfFirst, OfOne};
 ghost use Rattle.nutscythe_c.specs.Origins.{addr_of, verdict_of};
 
 use crate::handle::Handle;
-use crate::kept::Kept;
+use crate::handle_value::HandleValue;
 use crate::layers::act;
 use crate::origin::{Origin, addr_of, verdict_of};
 use crate::rule::Rule;
@@ -117,7 +117,7 @@ fn exchange(
         return Status::NoHandle;
     };
     let status = match &*kept {
-        Kept::Settings(settings) => exchange_from(
+        HandleValue::Settings(settings) => exchange_from(
             alloc, settings, origin, verdict, datagram, reply, reply_len, rule,
         ),
         _ => Status::NoHandle,
@@ -138,7 +138,7 @@ fn exchange_from(
     rule: &mut Rule,
 ) -> Status
     ensures given { result ≢ Status.NullPointer }
-    ensures decided { ExchangesBy (Some (Kept.Settings settings.now)) origin.now (addr_of origin.now) (verdict_of verdict) datagram.now
+    ensures decided { ExchangesBy (Some (HandleValue.Settings settings.now)) origin.now (addr_of origin.now) (verdict_of verdict) datagram.now
         (output reply.old reply_len.old rule.old) (output reply.new reply_len.new rule.new) result }
 {
     let Some(addr) = addr_of(origin) else {

@@ -7,7 +7,7 @@ ghost use Rattle.nutscythe_c.specs.Objects.{OfFirst};
 ghost use Rattle.nutscythe_c.specs.Streams.{Expires, Ticks};
 
 use crate::handle::Handle;
-use crate::kept::Kept;
+use crate::handle_value::HandleValue;
 use crate::status::Status;
 use dns_embed::Connection;
 use std::alloc::Global;
@@ -50,7 +50,7 @@ fn deadline_in(alloc: Global, connection: &mut Handle, now: u64, deadline: &mut 
         return Status::NoHandle;
     };
     let status = match &*kept {
-        Kept::Connection(opened) => {
+        HandleValue::Connection(opened) => {
             *deadline = opened.deadline(now);
             Status::Done
         }
@@ -84,7 +84,7 @@ fn tick_at(alloc: Global, connection: &mut [Handle], now: u64) -> Status
         return Status::NoHandle;
     };
     let status = match &*kept {
-        Kept::Connection(opened) => idle(opened, now),
+        HandleValue::Connection(opened) => idle(opened, now),
         _ => Status::NoHandle,
     };
     connection.put(kept);
@@ -93,7 +93,7 @@ fn tick_at(alloc: Global, connection: &mut [Handle], now: u64) -> Status
 
 /// Whether a connection is to be closed, since it was idle for too long.
 fn idle(opened: &Connection, now: u64) -> Status
-    ensures { Ticks now (Some (Kept.Connection opened.now)) result }
+    ensures { Ticks now (Some (HandleValue.Connection opened.now)) result }
 {
     if opened.is_idle(now) {
         Status::Close

@@ -9,7 +9,7 @@ ghost use Rattle.nutscythe_c.specs.Origins.{arrival_of, error_of, verdict_of};
 ghost use Rattle.nutscythe_c.specs.Rules.{rule_in};
 
 use crate::handle::Handle;
-use crate::kept::Kept;
+use crate::handle_value::HandleValue;
 use crate::origin::{Origin, arrival_of, error_of, verdict_of};
 use crate::rule::Rule;
 use crate::status::Status;
@@ -119,7 +119,7 @@ fn decide(
         return Status::NoHandle;
     };
     let status = match &*kept {
-        Kept::Settings(settings) => decide_from(
+        HandleValue::Settings(settings) => decide_from(
             alloc, settings, origin, verdict, message, reply, reply_len, rule,
         ),
         _ => Status::NoHandle,
@@ -140,7 +140,7 @@ fn decide_from(
     rule: &mut Rule,
 ) -> Status
     ensures given { result ≢ Status.NullPointer }
-    ensures decided { DecidesBy (Some (Kept.Settings settings.now)) (arrival_of origin.now) (verdict_of verdict) message.now
+    ensures decided { DecidesBy (Some (HandleValue.Settings settings.now)) (arrival_of origin.now) (verdict_of verdict) message.now
         (output reply.old reply_len.old rule.old) (output reply.new reply_len.new rule.new) result }
 {
     let Some(arrival) = arrival_of(origin) else {

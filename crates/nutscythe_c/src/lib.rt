@@ -27,7 +27,7 @@
 //!
 //! # What a body could still get away with
 //!
-//! Want of memory at any call that takes some, and a block that is never freed.
+//! Running out of memory at any call that takes some, and a block that is never freed.
 #![tactic(auto)]
 
 mod books;
@@ -35,8 +35,8 @@ mod closing;
 mod connections;
 mod datagrams;
 mod handle;
+mod handle_value;
 mod idle_timer;
-mod kept;
 mod layers;
 mod loose;
 mod origin;
@@ -50,7 +50,7 @@ mod transactions;
 mod uses;
 
 pub use handle::Handle;
-pub use kept::Kept;
+pub use handle_value::HandleValue;
 pub use origin::Origin;
 pub use rule::Rule;
 pub use servers::Servers;

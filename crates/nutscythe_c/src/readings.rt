@@ -7,7 +7,7 @@ ghost use Rattle.nutscythe_c.specs.Objects.{OfFirst};
 ghost use Rattle.nutscythe_c.specs.Readings.{ReadsMessage, Takes, TakesBy, section_number};
 
 use crate::handle::Handle;
-use crate::kept::Kept;
+use crate::handle_value::HandleValue;
 use crate::status::Status;
 use dns_embed::{ItemSection, MessageReader, ReadItem};
 use std::alloc::Global;
@@ -33,7 +33,7 @@ fn read_at(alloc: Global, message: &[u8], reader: &mut [Handle]) -> Status
         return Status::NullPointer;
     };
     match MessageReader::new(alloc, message) {
-        Ok(Some(begun)) => match reader.hold(alloc, Kept::Reader(begun)) {
+        Ok(Some(begun)) => match reader.hold(alloc, HandleValue::Reader(begun)) {
             Ok(()) => Status::Done,
             Err(_) => Status::NoMemory,
         },
@@ -102,7 +102,7 @@ fn next_in(
         return Status::NoHandle;
     };
     let status = match &mut *kept {
-        Kept::Reader(held) => next(alloc, held, item, item_len, section),
+        HandleValue::Reader(held) => next(alloc, held, item, item_len, section),
         _ => Status::NoHandle,
     };
     reader.put(kept);

@@ -9,7 +9,7 @@ ghost use Rattle.nutscythe_c.specs.Replies.{AddsBy, AddsHeld, AddsOption, Begins
 ghost use Rattle.nutscythe_c.specs.Rules.{rule_in};
 
 use crate::handle::Handle;
-use crate::kept::Kept;
+use crate::handle_value::HandleValue;
 use crate::layers::put_reply;
 use crate::rule::Rule;
 use crate::status::Status;
@@ -74,7 +74,7 @@ fn begin_at(
         return Status::OutOfRange;
     };
     match ServiceReply::begin(alloc, query, rcode, is_authoritative) {
-        Ok(Some(begun)) => match reply.hold(alloc, Kept::Reply(begun)) {
+        Ok(Some(begun)) => match reply.hold(alloc, HandleValue::Reply(begun)) {
             Ok(()) => Status::Done,
             Err(_) => Status::NoMemory,
         },
@@ -164,7 +164,7 @@ fn add_in(alloc: Global, reply: &mut Handle, section: Section, added: &PlainReco
         return Status::NoHandle;
     };
     let status = match &mut *kept {
-        Kept::Reply(held) => added_status(held.add(alloc, section, added)),
+        HandleValue::Reply(held) => added_status(held.add(alloc, section, added)),
         _ => Status::NoHandle,
     };
     reply.put(kept);
@@ -184,7 +184,7 @@ fn added_status(added: Result<(), AddError>) -> Status
     }
 }
 
-/// Adds an option behind those of a reply's OPT record (RFC 6891, section 6.1.1), which is its last additional record then.
+/// Adds an option after those of a reply's OPT record (RFC 6891, section 6.1.1), which is its last additional record then.
 #[unsafe(no_mangle)]
 pub extern "C" fn nutscythe_raw_reply_option(
     alloc: Global,
@@ -210,7 +210,7 @@ fn option_at(alloc: Global, reply: &mut [Handle], code: u16, octets: &[u8]) -> S
     };
     let code = OptionCode::from_int(code);
     let status = match &mut *kept {
-        Kept::Reply(held) => added_status(held.add_option(alloc, code, octets)),
+        HandleValue::Reply(held) => added_status(held.add_option(alloc, code, octets)),
         _ => Status::NoHandle,
     };
     reply.put(kept);
@@ -277,7 +277,7 @@ fn write_in(
         return Status::NoHandle;
     };
     let status = match &mut *kept {
-        Kept::Reply(held) => write(alloc, held, rule, octets, octets_len),
+        HandleValue::Reply(held) => write(alloc, held, rule, octets, octets_len),
         _ => Status::NoHandle,
     };
     reply.put(kept);

@@ -8,7 +8,7 @@ ghost use Rattle.nutscythe_c.specs.Rules.{given};
 ghost use Rattle.nutscythe_c.specs.Servers.{HasServers, SetsServers, are_timeouts, connection_of, dgram_of, is_between, is_budget, is_zero_or_between, stream_of};
 
 use crate::handle::Handle;
-use crate::kept::Kept;
+use crate::handle_value::HandleValue;
 use crate::status::Status;
 use dns_service::{ConnectionConfig, DgramConfig, Settings, StreamConfig};
 use std::alloc::Global;
@@ -29,7 +29,7 @@ pub struct Servers {
     pub max_connections: u32,
     /// How many replies a connection may queue in one window: 1 to 1,000,000, or 0 without a budget.
     pub response_budget: u32,
-    /// The most octets of a reply in a datagram: 512 to 4,096, or 0 where the client alone limits them.
+    /// The most octets of a reply in a datagram: 512 to 4,096, or 0 if the client alone limits them.
     pub max_response_size: u16,
     /// How many replies may wait on a connection: 1 to 1,024.
     pub max_queued_responses: u16,
@@ -168,7 +168,7 @@ fn servers_in(alloc: Global, settings: &mut Handle, servers: &Servers) -> Status
         return Status::NoHandle;
     };
     let status = match &mut *kept {
-        Kept::Settings(made) => set_servers(made, dgram_of(servers), stream_of(servers)),
+        HandleValue::Settings(made) => set_servers(made, dgram_of(servers), stream_of(servers)),
         _ => Status::NoHandle,
     };
     settings.put(kept);

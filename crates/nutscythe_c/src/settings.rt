@@ -9,7 +9,7 @@ ghost use Rattle.nutscythe_c.specs.Setters.{Copies, Denies, HasSecret, MakesSett
 ghost use Rattle.nutscythe_c.specs.Uses.{UsesBy};
 
 use crate::handle::Handle;
-use crate::kept::Kept;
+use crate::handle_value::HandleValue;
 use crate::origin::{ip_with, sixteen};
 use crate::status::Status;
 use crate::uses::{Use, use_at};
@@ -56,7 +56,7 @@ fn make(alloc: Global, strict: bool, edns: bool, settings: &mut [Handle]) -> Sta
     let mut made = Settings::new(alloc);
     made.strict = strict;
     made.edns = edns;
-    match settings.hold(alloc, Kept::Settings(made)) {
+    match settings.hold(alloc, HandleValue::Settings(made)) {
         Ok(()) => Status::Done,
         Err(_) => Status::NoMemory,
     }
@@ -102,7 +102,7 @@ fn read_into(
     ensures { ReadsText text.now settings.old.kept settings.new.kept bad_line.old bad_line.new result }
 {
     match read_settings(alloc, text) {
-        Ok(made) => match settings.hold(alloc, Kept::Settings(made)) {
+        Ok(made) => match settings.hold(alloc, HandleValue::Settings(made)) {
             Ok(()) => Status::Done,
             Err(_) => Status::NoMemory,
         },
@@ -157,7 +157,7 @@ fn set_cookies(alloc: Global, settings: &mut [Handle], secret: &[u8]) -> Status
         return Status::NoHandle;
     };
     let status = match &mut *kept {
-        Kept::Settings(made) => set_secret(made, secret),
+        HandleValue::Settings(made) => set_secret(made, secret),
         _ => Status::NoHandle,
     };
     settings.put(kept);
@@ -199,7 +199,7 @@ fn deny(alloc: Global, settings: &mut [Handle], ip: Option<IpAddr>) -> Status
         return Status::NoHandle;
     };
     let status = match &mut *kept {
-        Kept::Settings(made) => push_denied(alloc, &mut made.denied, ip),
+        HandleValue::Settings(made) => push_denied(alloc, &mut made.denied, ip),
         _ => Status::NoHandle,
     };
     settings.put(kept);
@@ -243,7 +243,7 @@ pub(crate) fn hold_copy(alloc: Global, made: &Settings, copy: &mut Handle) -> St
     let Ok(copied) = made.try_clone(alloc) else {
         return Status::NoMemory;
     };
-    match copy.hold(alloc, Kept::Settings(copied)) {
+    match copy.hold(alloc, HandleValue::Settings(copied)) {
         Ok(()) => Status::Done,
         Err(_) => Status::NoMemory,
     }

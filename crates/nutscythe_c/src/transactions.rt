@@ -7,7 +7,7 @@ ghost use Rattle.nutscythe_c.specs.Objects.{OfFirst};
 ghost use Rattle.nutscythe_c.specs.Transactions.{GivenBy, GivenTo, GivesBy, GivesTo, enqueued_status, heard_of, state_number, state_of};
 
 use crate::handle::Handle;
-use crate::kept::Kept;
+use crate::handle_value::HandleValue;
 use crate::status::Status;
 use dns_embed::{Connection, Heard};
 use dns_service::{Enqueued, InvokerStatus, ServiceFeedback};
@@ -53,7 +53,7 @@ fn heard_of(number: u32, idle_timeout: u64) -> Option<Heard>
 }
 
 /// Hears what the service of a request gave, at a moment in ms, and queues its reply, if there is one and it finds room. `request`
-/// says how far the request is, before and behind the call. 0 nothing is heard, 1 a transaction begins, 2 it ends. 3 the connection
+/// says how far the request is, before and after the call. 0 nothing is heard, 1 a transaction begins, 2 it ends. 3 the connection
 /// may be idle for `idle_timeout` ms, 4 the request ends with an error.
 #[unsafe(no_mangle)]
 pub extern "C" fn nutscythe_raw_connection_give(
@@ -131,7 +131,7 @@ fn give_in(
         return Status::NoHandle;
     };
     let status = match &mut *kept {
-        Kept::Connection(opened) => give(alloc, opened, at, state, request, heard, reply),
+        HandleValue::Connection(opened) => give(alloc, opened, at, state, request, heard, reply),
         _ => Status::NoHandle,
     };
     connection.put(kept);

@@ -7,7 +7,7 @@ ghost use Rattle.nutscythe_c.specs.Uses.{Uses, UsesBy};
 use crate::books::{configure, open_book};
 use crate::connections::open;
 use crate::handle::Handle;
-use crate::kept::Kept;
+use crate::handle_value::HandleValue;
 use crate::settings::hold_copy;
 use crate::status::Status;
 use dns_service::Settings;
@@ -55,7 +55,7 @@ fn use_by(alloc: Global, purpose: Use, settings: &mut Handle, other: &mut Handle
         return Status::NoHandle;
     };
     let status = match &*kept {
-        Kept::Settings(made) => use_with(alloc, purpose, made, other),
+        HandleValue::Settings(made) => use_with(alloc, purpose, made, other),
         _ => Status::NoHandle,
     };
     settings.put(kept);

@@ -102,7 +102,7 @@ fn write_name(octets: &mut [u8], at: usize, number: u64)
     octets[at + 5] = digit(number);
 }
 
-/// The records of so many names, behind the SOA record.
+/// The records of that many names, after the SOA record.
 fn records_of(row: &mut Row<'_>, names: u64) -> Vec<Record>
     ensures { AreLawful result.items }
 {
@@ -116,7 +116,7 @@ fn records_of(row: &mut Row<'_>, names: u64) -> Vec<Record>
     records
 }
 
-/// Adds the zone of so many names.
+/// Adds the zone of that many names.
 fn add_zone(row: &mut Row<'_>, authority: &mut Authority, names: u64) {
     let apex = row.copied(&APEX);
     match Name::from_octets(apex) {
@@ -137,7 +137,7 @@ fn added(row: &mut Row<'_>, authority: &mut Authority, zone: ZoneTree) {
     }
 }
 
-/// Says the sum over so many questions, each for another name.
+/// Says the sum over that many questions, each for another name.
 fn asked(row: &mut Row<'_>, authority: &Authority, names: u64, times: u64) {
     let mut octets = QUERY;
     let mut number = 0u64;
@@ -153,7 +153,7 @@ fn asked(row: &mut Row<'_>, authority: &Authority, names: u64, times: u64) {
     row.show(&sum)
 }
 
-/// Says the sum over so many transfers.
+/// Says the sum over that many transfers.
 fn transferred(row: &mut Row<'_>, authority: &Authority, times: u64) {
     let mut sum = 0u64;
     for _i in 0..times {

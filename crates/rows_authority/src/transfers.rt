@@ -5,7 +5,7 @@ use dns_incoming::IncomingTransfer;
 use dns_name::Name;
 use rows_table::{Calls, Row, RowError};
 
-/// How far a transfer is behind messages.
+/// How far a transfer is after messages.
 pub(crate) struct Transfers;
 
 impl Calls for Transfers {
@@ -18,7 +18,7 @@ impl Calls for Transfers {
     }
 }
 
-/// How far a transfer is behind each of some messages, and how many records came: the identifier that was asked with, the
+/// How far a transfer is after each of some messages, and how many records came: the identifier that was asked with, the
 /// apex, how many records the zone may have, how many messages there are, and the messages.
 fn incoming(row: &mut Row<'_>) {
     let id = row.number();
@@ -36,7 +36,7 @@ fn incoming(row: &mut Row<'_>) {
     }
 }
 
-/// How far a transfer is behind the message of the next word.
+/// How far a transfer is after the message of the next word.
 fn taken(row: &mut Row<'_>, transfer: &mut IncomingTransfer) {
     match Message::from_octets(row.vector()) {
         Ok(message) => {

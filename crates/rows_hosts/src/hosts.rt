@@ -23,7 +23,7 @@ use std::alloc::Global;
 use std::sync::{Arc, Wait};
 use std::thread::Threads;
 
-/// Queries for the root's address, with id 1 and 2, behind their length, and their replies.
+/// Queries for the root's address, with id 1 and 2, after their length, and their replies.
 const FIRST: &[u8] =
     b"\x00\x11\x00\x01\x01\x00\x00\x01\x00\x00\x00\x00\x00\x00\x00\x00\x01\x00\x01";
 
@@ -71,7 +71,7 @@ fn packets(alloc: Global, datagrams: &[&[u8]]) -> Result<Vec<Packet>, OutOfMemor
     Ok(packets)
 }
 
-/// Whether this datagram was sent alone, or none where none is wanted.
+/// Whether this datagram was sent alone, or none if none is wanted.
 fn was_sent(sent: &[Packet], wanted: Option<&[u8]>) -> bool {
     match wanted {
         Some(octets) => sent.len() == 1 && sent[0].octets.as_slice() == octets,
@@ -101,7 +101,7 @@ pub(crate) struct HostCase<'a> {
     sent: Option<&'a [u8]>,
 }
 
-/// What a host is given beside its links: a socket, the starts that fail, a service, and what is told of changed zones.
+/// What a host is given besides its links: a socket, the starts that fail, a service, and what is told of changed zones.
 #[derive(Drop)]
 pub(crate) struct Given<S, N> {
     pub(crate) sock: MemorySock,
@@ -472,7 +472,7 @@ const CASES: &[(&'static str, HostCase<'static>)] = &[
     ),
 ];
 
-/// What a test ends with, where all are served as is wanted, and else the name of the first that isn't.
+/// What a test ends with, if all are served as is wanted, and else the name of the first that isn't.
 fn all_hold<R: Threads + Wait + Copy + Send + Sync + Drop + 'static>(
     rt: &R,
     alloc: Global,

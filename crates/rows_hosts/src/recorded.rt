@@ -18,7 +18,7 @@ const CALLER: SocketAddr = SocketAddr {
     port: 53,
 };
 
-/// A query for the root's address, with an OPT record, behind its length, and its reply.
+/// A query for the root's address, with an OPT record, after its length, and its reply.
 const QUERY: &[u8] =
     b"\x00\x1c\x12\x34\x01\x00\x00\x01\x00\x00\x00\x00\x00\x01\x00\x00\x01\x00\x01\x00\x00\x29\x00\x00\x00\x00\x00\x00\x00\x00";
 
@@ -124,7 +124,7 @@ impl Outside {
         }
     }
 
-    /// The trace, where the reply was written and the trace tells.
+    /// The trace, if the reply was written and the trace tells.
     fn into_trace(self) -> Option<Vec<u8>> {
         let Outside { link, recorder, .. } = self;
         if link.written() == REPLY {
@@ -135,7 +135,7 @@ impl Outside {
     }
 }
 
-/// The trace, where it tells.
+/// The trace, if it tells.
 fn recorded_text(recorder: TraceRecorder) -> Option<Vec<u8>> {
     if recorder.tells() {
         Some(recorder.finish())
@@ -144,7 +144,7 @@ fn recorded_text(recorder: TraceRecorder) -> Option<Vec<u8>> {
     }
 }
 
-/// Serves a connection over what is outside, and gives its trace; none, here and below, where memory is short.
+/// Serves a connection over what is outside, and gives its trace; none, here and below, if memory is short.
 fn trace_over<R: Wait, W: SharedService>(
     rt: &R,
     alloc: Global,

@@ -49,7 +49,7 @@ fn stays<R: Wait>(rt: &R, alloc: Global, closed: &Look) -> bool {
     }
 }
 
-/// A configuration where each connection has this budget.
+/// A configuration in which each connection has this budget.
 fn with_budget(count: Option<u32>, window: u64) -> StreamConfig {
     let (_, mut stream) = with_limit(2);
     let mut connection = stream.connection_config();
@@ -218,7 +218,7 @@ fn two_agree<R: Threads + Wait + Sync>(rt: &R, alloc: Global) -> bool {
     always_agree(rt, alloc, BookState::new(dgram, stream), &replace)
 }
 
-/// What the test ends with, where each case holds, and else the name of the first that doesn't.
+/// What the test ends with, if each case holds, and else the name of the first that doesn't.
 fn all_hold<R: Threads + Wait + Sync>(rt: &R, alloc: Global) -> Result<(), &'static str> {
     // At the last version no configuration is replaced, and all stays. A closed book says its version.
     if !stays(rt, alloc, &look(LAST, true, 0, 2)) {

@@ -179,7 +179,7 @@ fn loopback(port: u16) -> net::SocketAddr {
     net::SocketAddr::new(ip, port)
 }
 
-/// The number of the next descriptor, which is free again behind this.
+/// The number of the next descriptor, which is free again after this.
 fn next_descriptor<R: Net<Stream = TcpStream>>(rt: &R, port: u16) -> Option<i32> {
     match TcpStream::connect(rt, loopback(port)) {
         Ok(probe) => Some(probe.as_raw_fd()),
@@ -203,7 +203,7 @@ fn lets_go<R: Net<Stream = TcpStream>, L: Link>(
         && link.write(b"x") == LinkWrite::Failed
 }
 
-/// Whether no room comes for what is written, also where it is waited for.
+/// Whether no room comes for what is written, also if it is waited for.
 fn is_filled<R: Wait, L: Link>(rt: &R, link: &mut L) -> bool {
     let piece = [0u8; 4096];
     let mut was_full = false;

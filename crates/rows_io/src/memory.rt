@@ -200,7 +200,7 @@ where
     true
 }
 
-/// What the next accept brings, where it is none from another address.
+/// What the next accept brings, if it is none from another address.
 fn next<A: AsyncAccept>(accept: &mut A) -> Option<Came>
 where
     A::Link: Drop,
@@ -280,7 +280,7 @@ fn steady_ones_hold(alloc: Global) -> bool {
     come_steadily(alloc) && sends_steadily(&mut SteadySock::new(alloc, Vec::new(alloc)))
 }
 
-/// What the test ends with, where each form holds, and else the name of the first that doesn't.
+/// What the test ends with, if each form holds, and else the name of the first that doesn't.
 fn all_hold(alloc: Global) -> Result<(), &'static str> {
     // The first read answers Again, the second fails, and then the octets come, two a call, up to the end. Writes take two octets a
     // call, and the second fails.

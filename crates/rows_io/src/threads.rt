@@ -14,7 +14,7 @@ const PEER: SocketAddr = SocketAddr {
     port: 53,
 };
 
-/// Work that adds 1 to a sum where it is done, and 1,000 where it is given up.
+/// Work that adds 1 to a sum if it is done, and 1,000 if it is given up.
 #[derive(Drop)]
 struct Sum {
     addr: SocketAddr,
@@ -66,7 +66,7 @@ fn start_one<R: Threads + Wait + Copy + Send + 'static, P: Spawner<Sum>>(
     }
 }
 
-/// Starts so many, one after the other, and waits for all. How many starts were refused.
+/// Starts that many, one after the other, and waits for all. How many starts were refused.
 fn start_all<R: Threads + Wait + Copy + Send + 'static, P: Spawner<Sum>>(
     rt: &R,
     alloc: Global,

@@ -23,7 +23,7 @@ impl Calls for Limiting {
     }
 }
 
-/// A rate: so many a second, seconds longer, and of so many one is truncated.
+/// A rate: that many a second, seconds longer, and of that many one is truncated.
 fn rate(row: &mut Row<'_>) -> Rate {
     Rate {
         per_second: row.number(),
@@ -84,7 +84,7 @@ fn contains(row: &mut Row<'_>) {
 }
 
 /// What limits by kind say of responses. The rate is that of each kind but errors, which have none; networks have 24 and 56
-/// bits, and those of 192.0.2.128 to 192.0.2.255 are exempt. Each step is KIND ADDRESS SECOND COOKIE, behind a negative one the
+/// bits, and those of 192.0.2.128 to 192.0.2.255 are exempt. Each step is KIND ADDRESS SECOND COOKIE, after a negative one the
 /// zone's name.
 fn judged(row: &mut Row<'_>) {
     let rate = rate(row);

@@ -3,7 +3,7 @@
 //! - signatures: codes of HMAC, keys, messages that are signed, verified and refused, and streams of them.
 //! - layer: a service whose requests are verified and whose replies are signed.
 //! - limits: accounts, networks, and limits by kind of response.
-//! - often: calls that are made so many times, which bench/tsig times.
+//! - often: calls that are made that many times, which bench/tsig times.
 //!
 //! The program prints each row that doesn't hold, and how many there were.
 #![tactic(auto)]

@@ -1,11 +1,11 @@
-//! Calls that are made so many times, which bench/tsig times.
+//! Calls that are made that many times, which bench/tsig times.
 
 ghost use Rattle.std.specs.Prelude.{◌≤◌, ◌<◌, length};
 
 use crate::signatures::can_be_signed;
 use dns_name::{Name, OutOfMemory};
 use dns_rate_limit::{Limiter, Rate, Verdict};
-use dns_tsig::{Algorithm, Key, Stamp, find, sign};
+use dns_tsig::{Algorithm, Key, TsigFields, find, sign};
 use rows_table::{Calls, Row, RowError};
 use sha2::{Digest, Sha256};
 use std::alloc::Global;
@@ -38,13 +38,13 @@ impl Calls for Often {
     }
 }
 
-const STAMP: Stamp = Stamp {
+const STAMP: TsigFields = TsigFields {
     time: 1800000000,
     fudge: 300,
     error: 0,
 };
 
-/// A header and one additional record of the root, of so many octets together, at least 23.
+/// A header and one additional record of the root, of that many octets together, at least 23.
 fn message(alloc: Global, size: usize) -> Result<Vec<u8>, OutOfMemory> {
     let left = size.saturating_sub(23);
     let mut octets = Vec::new(alloc);
@@ -90,7 +90,7 @@ fn sign_one(alloc: Global, key: &Key, base: &[u8]) -> Result<u8, OutOfMemory> {
     Ok(mac.as_slice()[0])
 }
 
-/// 1 where a message is found to be signed and verifies.
+/// 1 if a message is found to be signed and verifies.
 fn verify_one(key: &Key, message: &[u8]) -> u8 {
     if message.len() < 12 {
         return 0;
@@ -104,7 +104,7 @@ fn verify_one(key: &Key, message: &[u8]) -> u8 {
     }
 }
 
-/// The sum of the first octets of digests of so many zeros.
+/// The sum of the first octets of digests of that many zeros.
 fn digested(alloc: Global, size: usize, count: u32) -> Result<u64, OutOfMemory> {
     let mut base = Vec::new(alloc);
     for _ in 0..size {
@@ -144,7 +144,7 @@ fn verified(alloc: Global, size: usize, count: u32) -> Result<u64, OutOfMemory> 
     Ok(sum)
 }
 
-/// How many responses are sent whole of those to so many clients, ten a second each. The clients are far apart in turn, a million a
+/// How many responses are sent whole of those to that many clients, ten a second each. The clients are far apart in turn, a million a
 /// second.
 fn asked(alloc: Global, clients: usize, count: u32) -> Result<u64, OutOfMemory> {
     let rate = Rate {

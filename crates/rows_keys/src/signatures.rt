@@ -10,7 +10,7 @@ use dns_hmac::{Algorithm, Hmac};
 use dns_message::{Record, number_at};
 use dns_name::{Name, OutOfMemory};
 use dns_tsig::{
-    IncomingStream, Key, KeyError, KeyStore, Stamp, TsigError, find, sign, sign_other,
+    IncomingStream, Key, KeyError, KeyStore, TsigError, TsigFields, find, sign, sign_other,
     signed_refusal, stream_code, unsigned_refusal,
 };
 use rows_table::{Calls, Row, RowError};
@@ -79,13 +79,13 @@ fn time(row: &mut Row<'_>) -> u64
 }
 
 /// A stamp: time, fudge and error.
-fn stamp(row: &mut Row<'_>) -> Stamp
+fn stamp(row: &mut Row<'_>) -> TsigFields
     ensures { result.time < 2 ^ 48 }
 {
     let time = time(row);
     let fudge = row.number();
     let error = row.number();
-    Stamp { time, fudge, error }
+    TsigFields { time, fudge, error }
 }
 
 /// Octets of which there are fewer than 65,536.
@@ -171,7 +171,7 @@ fn verified(row: &mut Row<'_>) {
     }
 }
 
-/// The MAC of a message of a stream, `begun` or not, behind the MAC before.
+/// The MAC of a message of a stream, `begun` or not, after the MAC before.
 fn code_said(row: &mut Row<'_>) {
     let key = key(row);
     let stamp = stamp(row);
@@ -229,7 +229,7 @@ fn written(row: &mut Row<'_>) {
 /// The MAC of a message that is signed at time 0 under a key.
 fn signed_as_is(row: &mut Row<'_>, key: &Key, message: Vec<u8>) {
     let mut message = message;
-    let stamp = Stamp {
+    let stamp = TsigFields {
         time: 0,
         fudge: 300,
         error: 0,

@@ -61,7 +61,7 @@ fn reply_of(alloc: Global, message: Message) -> Result<ReplyMessage, OutOfMemory
     Ok(ReplyMessage::of(message, opt))
 }
 
-/// What a cache says at steps, which hashes from a seed, where there is one; the next word is its capacity.
+/// What a cache says at steps, which hashes from a seed, if there is one; the next word is its capacity.
 pub(crate) fn cache(row: &mut Row<'_>, seed: Option<RandomState>) {
     let capacity: usize = row.number();
     let cache = match seed {
@@ -91,7 +91,7 @@ impl Steps for Stepped {
     }
 }
 
-/// Takes a step with the request of the next words, behind its second: the reply of its key is removed, or it is asked over a
+/// Takes a step with the request of the next words, after its second: the reply of its key is removed, or it is asked over a
 /// service that gives a reply. Or, to tell what is kept, it is asked over one that refuses.
 fn taken(row: &mut Row<'_>, cache: &mut Cache, step: &str) {
     let second = row.number();

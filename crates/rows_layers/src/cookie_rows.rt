@@ -30,7 +30,7 @@ pub(crate) fn guarded(row: &mut Row<'_>, on: bool, made: bool) {
 }
 
 /// The cookie layer, on or not, under a secret and with one denied address or none; the address of the request; and whether
-/// the reply's cookies are told.
+/// the reply's cookies are reported.
 #[derive(Drop)]
 struct Guard {
     secret: [u8; 16],

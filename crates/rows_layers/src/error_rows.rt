@@ -27,7 +27,7 @@ pub(crate) fn error_said(row: &mut Row<'_>, coded: bool) {
     }
 }
 
-/// The error that a reply is refused with, where a push or a reading was, or memory was short.
+/// The error that a reply is refused with, if a push or a reading was, or memory was short.
 pub(crate) fn refused_by(words: &str) -> Option<ReplyError> {
     match words {
         "push ShortBuf" => Some(PushError::ShortBuf.into()),

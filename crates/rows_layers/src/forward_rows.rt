@@ -31,7 +31,7 @@ fn next_terms(row: &mut Row<'_>) -> Terms {
     }
 }
 
-/// An asking of the message of the next word by the words behind it.
+/// An asking of the message of the next word by the words after it.
 fn next_asking(row: &mut Row<'_>) -> Result<Asking, RowError> {
     let message = Message::from_octets(row.vector()).or(Err(RowError::OutOfForm))?;
     let terms = next_terms(row);

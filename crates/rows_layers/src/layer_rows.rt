@@ -65,7 +65,7 @@ pub(crate) trait Layers {
         requires { S.can_call service };
 }
 
-/// What layers give to the request of the next words, round a service that answers with the item behind it.
+/// What layers give to the request of the next words, round a service that answers with the item after it.
 fn through<L: Layers>(row: &mut Row<'_>, layers: &L) {
     through_from(row, layers, IpAddr::V4([192, 0, 2, 1]), 100)
 }
@@ -78,7 +78,7 @@ pub(crate) fn through_from<L: Layers>(row: &mut Row<'_>, layers: &L, ip: IpAddr,
     }
 }
 
-/// What the layers give to this request, round a service that answers with the item behind it.
+/// What the layers give to this request, round a service that answers with the item after it.
 fn asked<L: Layers>(row: &mut Row<'_>, layers: &L, request: &mut Request<()>) {
     match item(row, request) {
         Ok(item) => layers.ask(row, service_fn::<AsPlanned, _, _>(planned, item), request),
@@ -160,7 +160,7 @@ struct Edns {
 }
 
 impl Layers for Edns {
-    /// The hint that the request has afterwards; or the item, where the layer is off.
+    /// The hint that the request has afterwards; or the item, if the layer is off.
     fn ask<S: Service<()>>(&self, row: &mut Row<'_>, service: S, request: &mut Request<()>) {
         let shown = if self.on {
             Shown::Polls(0)

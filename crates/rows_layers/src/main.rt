@@ -2,7 +2,7 @@
 //!
 //! - layer_rows, wrap_rows, cookie_rows, error_rows: what the layers give to a request, one by one and as one.
 //! - service_rows, stream_rows, request_rows, reply_rows: what these stand on.
-//! - router_rows, route_rows, forward_rows, cache_rows, zone_rows: services beside the layers.
+//! - router_rows, route_rows, forward_rows, cache_rows, zone_rows: services besides the layers.
 //! - works, often_rows, router_often: work that is done many times over, which `bench/calls` times.
 //!
 //! `crates/rows_table` says how a row is written. The program prints each row that doesn't hold.

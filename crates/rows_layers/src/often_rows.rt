@@ -16,7 +16,7 @@ use dns_service::{
 use rows_table::{Calls, Row, RowError};
 use std::alloc::Global;
 
-/// A query is made a request that came in a datagram, so many times. A service is asked that answers at once with a copy of a
+/// A query is made a request that came in a datagram, that many times. A service is asked that answers at once with a copy of a
 /// reply: the sum of the octets of all replies. Or a router is asked, of which one turn is made for each, or work is done that asks
 /// for no service. And a reply is cut, or a stream is watched.
 #[derive(Drop)]
@@ -109,7 +109,7 @@ fn with_cookies(alloc: Global) -> Settings {
     settings
 }
 
-/// The sum of the replies of a service to a query that is made a request so many times.
+/// The sum of the replies of a service to a query that is made a request that many times.
 fn replies<S: Service<()>>(alloc: Global, service: &S, query: &[u8], count: u64) -> u64
     requires { S.can_call service.now }
 {

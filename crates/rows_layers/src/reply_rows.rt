@@ -173,7 +173,7 @@ fn refusal_said<E: Debug + Drop>(row: &mut Row<'_>, done: Result<(), E>) {
     }
 }
 
-/// An OPT record of a size, and with the response code BADCOOKIE where there is a size.
+/// An OPT record of a size, and with the response code BADCOOKIE if there is a size.
 fn sized_opt(row: &mut Row<'_>, reply: &mut AdditionalBuilder, size: u16) {
     let done = reply.opt(row.alloc(), |opt: &mut OptBuilder| sized(opt, size));
     refusal_said(row, done)
@@ -190,7 +190,7 @@ fn padded(row: &mut Row<'_>, reply: &mut AdditionalBuilder, alone: bool, number:
     }
 }
 
-/// Sets the size, and the response code BADCOOKIE where there is a size.
+/// Sets the size, and the response code BADCOOKIE if there is a size.
 fn sized(opt: &mut OptBuilder, size: u16) -> Result<(), BuildDataError> {
     if size > 0 {
         opt.set_udp_payload_size(size);

@@ -23,7 +23,7 @@ const QUERY: [u8; 36] =
 /// How far the name that is asked for is from the one that was asked for before: names far apart in turn.
 const STRIDE: u64 = 61_803;
 
-/// The sum of the answers of a router of so many names over so many turns, as the next words say.
+/// The sum of the answers of a router of that many names over that many turns, as the next words say.
 pub(crate) fn often_routed(row: &mut Row<'_>) {
     let names = row.number::<u64>();
     let turns = row.number::<u64>();
@@ -82,7 +82,7 @@ fn add(alloc: Global, router: &mut QnameRouter<Refusing>, number: u64) -> Option
     }
 }
 
-/// A router of so many names.
+/// A router of that many names.
 fn router_of(alloc: Global, names: u64) -> Option<QnameRouter<Refusing>> {
     let mut router = QnameRouter::new(alloc);
     for number in 0..names {
@@ -91,7 +91,7 @@ fn router_of(alloc: Global, names: u64) -> Option<QnameRouter<Refusing>> {
     Some(router)
 }
 
-/// The response code of the error that a router gives to a query that came in a datagram, 0 where it gives none.
+/// The response code of the error that a router gives to a query that came in a datagram, 0 if it gives none.
 fn code(alloc: Global, router: &QnameRouter<Refusing>, octets: &[u8]) -> Option<u64> {
     match datagram(alloc, octets) {
         Some(request) => turn_code(alloc, router, &request),
@@ -113,7 +113,7 @@ fn code_of(turned: &Turned) -> u64 {
     }
 }
 
-/// The sum of these codes over so many turns, each for a name of the router's.
+/// The sum of these codes over that many turns, each for a name of the router's.
 fn answers(alloc: Global, router: &QnameRouter<Refusing>, names: u64, turns: u64) -> Option<u64> {
     let mut octets = QUERY;
     let mut number = 0u64;

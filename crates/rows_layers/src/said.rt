@@ -8,9 +8,9 @@ use rows_table::{Row, RowError};
 /// How often a stream is polled and how its replies are said.
 #[derive(Clone, Copy)]
 pub(crate) enum Shown<'a> {
-    /// The octets of so many polls.
+    /// The octets of that many polls.
     Polls(u8),
-    /// The octets of the first poll, where the second gives the end.
+    /// The octets of the first poll, if the second gives the end.
     Only,
     /// The cookies of the first poll, as they check for an address under a secret.
     Cookies(IpAddr, &'a [u8; 16]),
@@ -31,7 +31,7 @@ pub(crate) fn called<S: Service<()>>(
     }
 }
 
-/// What a future's stream gives, behind `pending` for each poll that gives none yet; there are four polls at most.
+/// What a future's stream gives, after `pending` for each poll that gives none yet; there are four polls at most.
 fn future_said<F: ReplyFuture>(row: &mut Row<'_>, future: &mut F, shown: Shown<'_>) {
     for _ in 0..4 {
         if let Some(mut stream) = ready(row, future) {
@@ -40,7 +40,7 @@ fn future_said<F: ReplyFuture>(row: &mut Row<'_>, future: &mut F, shown: Shown<'
     }
 }
 
-/// The stream that a future gives at its next poll; where there is none, it says so.
+/// The stream that a future gives at its next poll; if there is none, it says so.
 pub(crate) fn ready<F: ReplyFuture>(row: &mut Row<'_>, future: &mut F) -> Option<F::Stream> {
     match future.poll(row.alloc()) {
         Ok(Polled::Ready(stream)) => return Some(stream),
@@ -65,7 +65,7 @@ fn stream_said<S: ReplyStream>(row: &mut Row<'_>, stream: &mut S, shown: Shown<'
     }
 }
 
-/// What so many polls give.
+/// What that many polls give.
 pub(crate) fn polled<S: ReplyStream>(row: &mut Row<'_>, stream: &mut S, polls: u8) {
     for _ in 0..polls {
         next_said(row, stream);
@@ -123,7 +123,7 @@ fn item_said(row: &mut Row<'_>, item: &ServiceResult) {
     }
 }
 
-/// How many items are left, at least and at most: `1..2`, or `1..` where the most isn't known.
+/// How many items are left, at least and at most: `1..2`, or `1..` if the most isn't known.
 pub(crate) fn size_said(row: &mut Row<'_>, size: (usize, Option<usize>)) {
     row.show(&size.0);
     row.close("..");

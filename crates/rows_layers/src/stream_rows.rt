@@ -18,7 +18,7 @@ type Layered = MiddlewareStream<
     Once,
 >;
 
-/// A reply is cut to so many octets: its limit and its octets.
+/// A reply is cut to that many octets: its limit and its octets.
 pub(crate) fn cut_next(row: &mut Row<'_>) {
     match reply(row.alloc(), row.octets()) {
         Ok(mut reply) => {
@@ -51,7 +51,7 @@ pub(crate) fn watched(row: &mut Row<'_>, sizes: bool) {
     }
 }
 
-/// The sizes that a stream tells at first and as it is polled so many times, or what these polls answer.
+/// The sizes that a stream tells at first and as it is polled that many times, or what these polls answer.
 fn shown<S: ReplyStream>(row: &mut Row<'_>, stream: S, sizes: bool) {
     let mut stream = stream;
     let polls = row.number::<u8>();

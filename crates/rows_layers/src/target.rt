@@ -9,7 +9,7 @@ use dns_service::{OutOfMemory, Polled};
 use rows_table::{Row, RowError};
 use std::alloc::Global;
 
-/// Gives the same verdict on each zone, and is pending so many times before.
+/// Gives the same verdict on each zone, and is pending that many times before.
 #[derive(Clone, Copy, Debug)]
 pub(crate) struct Target {
     waits: u8,

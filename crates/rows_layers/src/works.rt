@@ -10,7 +10,7 @@ use hash::{checks, hash_chain};
 use read::readings;
 use rows_table::{Row, RowError};
 
-/// Does the work of the next word as often as the word behind it says: a hash of 20 or of 64 octets, a check of a server cookie's
+/// Does the work of the next word as often as the word after it says: a hash of 20 or of 64 octets, a check of a server cookie's
 /// hash, or the reading of a response into borrowed views. Or it is the building of that response. What is left of it is a number
 /// that depends on each of its results. Nothing is left if memory is short or no work has this name.
 pub(crate) fn worked(row: &mut Row<'_>) {

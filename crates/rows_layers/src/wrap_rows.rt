@@ -36,7 +36,7 @@ impl All {
 }
 
 impl Layers for All {
-    /// What the layers as one give at so many polls, and the hint that the request has after the call.
+    /// What the layers as one give at that many polls, and the hint that the request has after the call.
     fn ask<S: Service<()>>(&self, row: &mut Row<'_>, service: S, request: &mut Request<()>) {
         let mut settings = Settings::new(row.alloc());
         settings.strict = self.strict;
@@ -48,7 +48,7 @@ impl Layers for All {
     }
 }
 
-/// What a service in its layers by settings gives at so many polls of a request.
+/// What a service in its layers by settings gives at that many polls of a request.
 fn in_settings<S: Service<()>>(
     row: &mut Row<'_>,
     all: &All,

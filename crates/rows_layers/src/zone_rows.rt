@@ -11,7 +11,7 @@ use dns_name::Name;
 use dns_zone::{Zone, ZoneError};
 use rows_table::{Row, RowError};
 
-/// What is said of the zone of the next words, an apex and records, or of its turn of the request behind them.
+/// What is said of the zone of the next words, an apex and records, or of its turn of the request after them.
 pub(crate) fn zone(row: &mut Row<'_>, is_asked: bool) {
     let octets = row.vector();
     match Name::from_octets(octets) {
@@ -54,7 +54,7 @@ fn next_records(row: &mut Row<'_>) -> Vec<Record>
     records
 }
 
-/// Appends the record of a word, but for `-`.
+/// Appends the record of a word, except for `-`.
 fn push_record(row: &mut Row<'_>, records: &mut Vec<Record>, word: &str)
     requires { AreLawful records.old.items }
     ensures { AreLawful records.new.items }

@@ -17,7 +17,7 @@ use std::sync::atomic::{AtomicBool, Ordering};
 const TURNS: u64 = 1_000_000_000;
 
 /// Answers each request with its response code at its first poll. A poll of a request with id 1 waits for the flag, and is out
-/// of memory where it was not set; that of a request with id 2 sets it.
+/// of memory if it was not set; that of a request with id 2 sets it.
 #[derive(Drop)]
 pub struct Holding {
     /// Whether a held poll goes on.
@@ -59,7 +59,7 @@ pub struct HoldingFuture {
     stream: Option<Once>,
 }
 
-/// Whether the flag was set within so many turns.
+/// Whether the flag was set within that many turns.
 fn is_set(flag: &AtomicBool) -> bool {
     for _ in 0..TURNS {
         if flag.load(Ordering::SeqCst) {

@@ -32,7 +32,7 @@ pub struct SeenLink<R> {
     seen: Arc<Seen>,
 }
 
-/// What is seen of a link that was never used. It is put behind what stands in `seen`, too.
+/// What is seen of a link that was never used. It is put after what stands in `seen`, too.
 fn unseen(alloc: Global, seen: &mut Vec<Arc<Seen>>) -> Result<Arc<Seen>, OutOfMemory> {
     let sight = Seen {
         written: Mutex::new(Vec::new(alloc)),
@@ -63,7 +63,7 @@ fn link_of<R: Copy>(
     }
 }
 
-/// Puts a link that gives this query behind the others.
+/// Puts a link that gives this query after the others.
 fn add_link<R: Wait + Copy + Drop>(
     rt: R,
     alloc: Global,
@@ -78,7 +78,7 @@ fn add_link<R: Wait + Copy + Drop>(
     }
 }
 
-/// Links that each give one of these queries. What is seen of them is put behind what stands in `seen`.
+/// Links that each give one of these queries. What is seen of them is put after what stands in `seen`.
 pub fn links_of<R: Wait + Copy + Drop>(
     rt: R,
     alloc: Global,
@@ -153,7 +153,7 @@ impl<R: Wait + Copy + Drop> Link for SeenLink<R> {
 }
 
 impl Seen {
-    /// Whether these octets were written on the link, which was handed to a hook so many times, and closed so many times.
+    /// Whether these octets were written on the link, which was handed to a hook that many times, and closed that many times.
     fn shows<R: Wait>(&self, rt: &R, wanted: &(&[u8], u64), closed: u64) -> bool {
         self.hooked.load(Ordering::SeqCst) == wanted.1
             && self.closed.load(Ordering::SeqCst) == closed
@@ -161,7 +161,7 @@ impl Seen {
     }
 }
 
-/// Whether these octets were written on the links. The links were handed to a hook so many times, and each was closed so many
+/// Whether these octets were written on the links. The links were handed to a hook that many times, and each was closed that many
 /// times.
 pub fn show<R: Wait>(rt: &R, seen: &[Arc<Seen>], wanted: &[(&[u8], u64)], closed: u64) -> bool {
     if seen.len() != wanted.len() {

@@ -17,7 +17,7 @@ pub const PEER: SocketAddr = SocketAddr {
     port: 53,
 };
 
-/// An open book with so many slots, and its first seat.
+/// An open book with that many slots, and its first seat.
 pub fn book_of(alloc: Global, slots: usize) -> Result<(Arc<Book>, BookSeat), OutOfMemory>
     ensures { IfOk result (λ r. r.1.book ≡ arc_value r.0) }
 {
@@ -52,7 +52,7 @@ pub fn packet(alloc: Global, octets: &[u8]) -> Result<Packet, OutOfMemory> {
 }
 
 /// What gives a link for each of these queries, of which these accepts fail and those answer Again. What is seen of the links is put
-/// behind what stands in `seen`.
+/// after what stands in `seen`.
 pub fn accept_of<R: Wait + Copy + Drop>(
     rt: R,
     alloc: Global,

@@ -5,11 +5,11 @@ use crate::forms::link_case::LinkCase;
 use dns_service::Why;
 use dns_stream_driver::ConnectionEnd;
 
-/// A query for the root's address, behind its length.
+/// A query for the root's address, after its length.
 const QUERY: &[u8] =
     b"\x00\x11\x12\x34\x01\x00\x00\x01\x00\x00\x00\x00\x00\x00\x00\x00\x01\x00\x01";
 
-/// The reply that the name isn't there, behind its length, with the OPT record of an error reply.
+/// The reply that the name isn't there, after its length, with the OPT record of an error reply.
 const REPLY: &[u8] =
     b"\x00\x1c\x12\x34\x81\x03\x00\x01\x00\x00\x00\x00\x00\x01\x00\x00\x01\x00\x01\x00\x00\x29\x00\x00\x00\x00\x00\x00\x00\x00";
 
@@ -20,11 +20,11 @@ const TWICE: &[u8] =
 const REPLIES: &[u8] =
     b"\x00\x1c\x12\x34\x81\x03\x00\x01\x00\x00\x00\x00\x00\x01\x00\x00\x01\x00\x01\x00\x00\x29\x00\x00\x00\x00\x00\x00\x00\x00\x00\x1c\x12\x34\x81\x03\x00\x01\x00\x00\x00\x00\x00\x01\x00\x00\x01\x00\x01\x00\x00\x29\x00\x00\x00\x00\x00\x00\x00\x00";
 
-/// Three responses behind their lengths, of a header alone. Each is refused at once.
+/// Three responses after their lengths, of a header alone. Each is refused at once.
 const RESPONSES: &[u8] =
     b"\x00\x0c\x00\x01\x80\x00\x00\x00\x00\x00\x00\x00\x00\x00\x00\x0c\x00\x02\x80\x00\x00\x00\x00\x00\x00\x00\x00\x00\x00\x0c\x00\x03\x80\x00\x00\x00\x00\x00\x00\x00\x00\x00";
 
-/// The refusals of the first two, behind their lengths, and the first ten octets of that of the third.
+/// The refusals of the first two, after their lengths, and the first ten octets of that of the third.
 const REFUSALS: &[u8] =
     b"\x00\x17\x00\x01\x80\x01\x00\x00\x00\x00\x00\x00\x00\x01\x00\x00\x29\x00\x00\x00\x00\x00\x00\x00\x00\x00\x17\x00\x02\x80\x01\x00\x00\x00\x00\x00\x00\x00\x01\x00\x00\x29\x00\x00\x00\x00\x00\x00\x00\x00\x00\x17\x00\x03\x80\x01\x00\x00\x00\x00";
 
@@ -136,7 +136,7 @@ const CASES: &[(&'static str, Trial<LinkCase<'static>>)] = &[
             ..ONE
         }),
     ),
-    // Each wait follows a call that answered Again, and each such call is followed by one, which is short where a request is
+    // Each wait follows a call that answered Again, and each such call is followed by one, which is short if a request is
     // unfinished: the stream of the reply is not at its end yet.
     (
         "a_wait_follows_each_again",
@@ -166,7 +166,7 @@ const CASES: &[(&'static str, Trial<LinkCase<'static>>)] = &[
             ..ONE
         }),
     ),
-    // With memory for so many notes, how often the service is called and its future polled: an event is noted before the core takes
+    // With memory for that many notes, how often the service is called and its future polled: an event is noted before the core takes
     // it, and what is not noted neither calls nor polls the service.
     (
         "no_call",

@@ -99,7 +99,7 @@ const CASES: &[(&'static str, Trial<SockCase<'static>>)] = &[
             ..TWO
         }),
     ),
-    // After so many datagrams no more is received.
+    // After that many datagrams no more is received.
     (
         "one_of_two_is_served",
         Trial::Refused(SockCase {
@@ -159,7 +159,7 @@ const CASES: &[(&'static str, Trial<SockCase<'static>>)] = &[
             ..ONE
         }),
     ),
-    // A Turn right behind its datagram has the datagram's moment, and one behind a wait has a moment of its own.
+    // A Turn right after its datagram has the datagram's moment, and one after a wait has a moment of its own.
     (
         "a_turn_has_the_datagrams_moment",
         Trial::Refused(SockCase {
@@ -182,7 +182,7 @@ const CASES: &[(&'static str, Trial<SockCase<'static>>)] = &[
             ..ONE
         }),
     ),
-    // With memory for so many notes, how often the service is called and its future polled: an event is noted before the core takes
+    // With memory for that many notes, how often the service is called and its future polled: an event is noted before the core takes
     // it, and what is not noted neither calls nor polls the service.
     ("no_call", Trial::Counted(UNNOTED, (0, 0))),
     (

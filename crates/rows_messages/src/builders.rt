@@ -42,7 +42,7 @@ fn built(row: &mut Row<'_>, framed: bool) {
     }
 }
 
-/// What the steps say, and the octets that the message has behind them.
+/// What the steps say, and the octets that the message has after them.
 fn shown(row: &mut Row<'_>, stage: Stage) {
     let mut stage = stage;
     row.take_steps(", ", &mut stage);
@@ -73,7 +73,7 @@ fn rcode(row: &mut Row<'_>) -> Rcode {
     }
 }
 
-/// The answer or the error answer to a query, of at most so many octets and with a response code. And what the steps say of it.
+/// The answer or the error answer to a query, of at most that many octets and with a response code. And what the steps say of it.
 fn started(row: &mut Row<'_>, error: bool) {
     let limit = row.number();
     let rcode = rcode(row);
@@ -91,7 +91,7 @@ fn begun(row: &mut Row<'_>, limit: usize, rcode: Rcode, query: &Message, error: 
     }
 }
 
-/// The answer or the error answer to a query, of at most so many octets and with a response code.
+/// The answer or the error answer to a query, of at most that many octets and with a response code.
 fn answer(
     alloc: Global,
     limit: usize,
@@ -118,7 +118,7 @@ fn own_answer(row: &mut Row<'_>) {
     }
 }
 
-/// A message with the first question of a query, where there is one, and a record of its name.
+/// A message with the first question of a query, if there is one, and a record of its name.
 fn address_of_asked(
     alloc: Global,
     query: &MessageRef<'_>,

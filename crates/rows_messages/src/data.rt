@@ -80,7 +80,7 @@ fn dname(row: &mut Row<'_>) -> Result<RecordData, RowError>
     RecordData::named(Rtype::DNAME, name).ok_or(RowError::OutOfForm)
 }
 
-/// Data by its type, whose fields are the words behind it.
+/// Data by its type, whose fields are the words after it.
 fn data(row: &mut Row<'_>) -> Result<RecordData, RowError>
     ensures { IfOk result IsLawful }
 {

@@ -78,7 +78,7 @@ fn first_question(row: &mut Row<'_>) {
     }
 }
 
-/// The first question, where it stands.
+/// The first question, if it stands.
 fn compose_question(row: &mut Row<'_>) {
     match next_message(row).first_question() {
         Some(found) => composed(row, &found),
@@ -86,7 +86,7 @@ fn compose_question(row: &mut Row<'_>) {
     }
 }
 
-/// The first of some records, owned; where there is none, octets are missing.
+/// The first of some records, owned; if there is none, octets are missing.
 fn first_owned(alloc: Global, records: RecordIter<'_>) -> Result<Record, ParseError>
     ensures { IfOk result (λ r. IsLawful r.rdata) }
 {
@@ -151,7 +151,7 @@ pub(crate) fn data_octets(row: &mut Row<'_>, item: &Record) {
     row.hexadecimal(&target)
 }
 
-/// Says the types of records behind the name of their section.
+/// Says the types of records after the name of their section.
 fn types(row: &mut Row<'_>, section: &str, records: RecordIter<'_>) -> Result<(), RowError> {
     row.say(section);
     for found in records {

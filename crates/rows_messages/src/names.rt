@@ -92,7 +92,7 @@ fn owned(row: &mut Row<'_>) {
     }
 }
 
-/// A name by Debug, whether it is the root's, its parent, and what is behind so many of its labels.
+/// A name by Debug, whether it is the root's, its parent, and what is after that many of its labels.
 fn name_parts(row: &mut Row<'_>) {
     let name = row.name();
     row.debug(&name);

@@ -63,7 +63,7 @@ impl Stage {
         }
     }
 
-    /// Lets the message take so many octets.
+    /// Lets the message take that many octets.
     fn limit(&mut self, limit: usize) {
         match self {
             Stage::Gone => {}
@@ -119,7 +119,7 @@ impl Stage {
     }
 }
 
-/// The message at the section behind its own; the last one has none.
+/// The message at the section after its own; the last one has none.
 fn moved(stage: Stage) -> Stage {
     match stage {
         Stage::Message(builder) => Stage::Question(builder.question()),
@@ -150,7 +150,7 @@ fn question_of(alloc: Global, octets: &[u8]) -> Result<Question, ParseError> {
     }
 }
 
-/// The question of a name, whose type and class are behind it.
+/// The question of a name, whose type and class are after it.
 fn question_behind(
     alloc: Global,
     name: &NameRef<'_>,

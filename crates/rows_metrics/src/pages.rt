@@ -38,7 +38,7 @@ impl Calls for Pages {
 
 /// Metrics that steps make.
 #[derive(Drop)]
-struct Made {
+struct PageSteps {
     families: Vec<Family>,
 }
 
@@ -60,7 +60,7 @@ fn label(row: &mut Row<'_>) -> Result<Label, MetricError> {
     Label::new(row.alloc(), name, value)
 }
 
-/// The next labels, behind their number.
+/// The next labels, after their number.
 fn labels(row: &mut Row<'_>) -> Result<Vec<Label>, MetricError> {
     let mut labels = Vec::new(row.alloc());
     let count: u8 = row.number();
@@ -70,7 +70,7 @@ fn labels(row: &mut Row<'_>) -> Result<Vec<Label>, MetricError> {
     Ok(labels)
 }
 
-impl Made {
+impl PageSteps {
     /// Begins with a metric: its name, and the octets of its help text.
     fn begin(&mut self, row: &mut Row<'_>, kind: MetricKind) -> Result<(), MetricError> {
         let name = row.word();
@@ -91,7 +91,7 @@ impl Made {
     }
 }
 
-impl Steps for Made {
+impl Steps for PageSteps {
     fn take_step(&mut self, step: &str, row: &mut Row<'_>) {
         let done = match step {
             "counter" => self.begin(row, MetricKind::Counter),
@@ -121,7 +121,7 @@ fn say_line(row: &mut Row<'_>, line: &str) {
 /// Says each line of the text of metrics that steps make, and whether its last octet is no line feed.
 fn shown(row: &mut Row<'_>) {
     let alloc = row.alloc();
-    let mut made = Made {
+    let mut made = PageSteps {
         families: Vec::new(alloc),
     };
     row.take_steps(";", &mut made);

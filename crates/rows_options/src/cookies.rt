@@ -74,7 +74,7 @@ impl Next for Cookie {
     }
 }
 
-/// Whether a cookie checks for an address under a secret, where only one timestamp is accepted.
+/// Whether a cookie checks for an address under a secret, if only one timestamp is accepted.
 fn check_server_hash(row: &mut Row<'_>) {
     let cookie = Cookie::next(row);
     let client_ip = row.address();
@@ -109,7 +109,7 @@ fn client_words(row: &mut Row<'_>) -> (Cookie, Serial, IpAddr, [u8; 16]) {
     (Cookie::new(client, None), timestamp, client_ip, secret)
 }
 
-/// The cookie that a response has: the octets of both parts, one behind the other.
+/// The cookie that a response has: the octets of both parts, one after the other.
 fn create_response(row: &mut Row<'_>) {
     let (cookie, timestamp, client_ip, secret) = client_words(row);
     let response = cookie.create_response(timestamp, client_ip, &secret);
@@ -121,7 +121,7 @@ fn create_response(row: &mut Row<'_>) {
     row.hexadecimal(&octets)
 }
 
-/// Whether the cookie that a response has checks, where every timestamp is accepted.
+/// Whether the cookie that a response has checks, if every timestamp is accepted.
 fn check_created(row: &mut Row<'_>) {
     let (cookie, timestamp, client_ip, secret) = client_words(row);
     let response = cookie.create_response(timestamp, client_ip, &secret);

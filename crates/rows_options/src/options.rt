@@ -90,7 +90,7 @@ fn option_said(row: &mut Row<'_>, item: Result<AllOptData<'_>, ParseError>) {
     }
 }
 
-/// The data of the first option of a kind in a list; of the first identifier in an owned copy, where the kind is none of
+/// The data of the first option of a kind in a list; of the first identifier in an owned copy, if the kind is none of
 /// these.
 fn first(row: &mut Row<'_>) {
     let kind = row.word();
@@ -121,7 +121,7 @@ fn first_said<D: ComposeOptData + Drop>(row: &mut Row<'_>, found: Option<D>) {
     }
 }
 
-/// The code and the length that the head of an option has, and how many octets are left behind it.
+/// The code and the length that the head of an option has, and how many octets are left after it.
 fn option_header(row: &mut Row<'_>) {
     let mut parser = Parser::from_ref(row.octets());
     match OptionHeader::parse(&mut parser) {

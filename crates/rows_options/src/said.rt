@@ -66,7 +66,7 @@ pub fn built(row: &mut Row<'_>, done: Result<(), BuildDataError>) {
 
 /// What the next words of a row may be.
 pub trait Next {
-    /// It; where it can't be read, some other one, with a fault.
+    /// It; if it can't be read, some other one, with a fault.
     fn next(row: &mut Row<'_>) -> Self;
 }
 

@@ -79,7 +79,7 @@ impl Target<'_> {
         }
     }
 
-    /// Pushes an identifier of so many zeros.
+    /// Pushes an identifier of that many zeros.
     fn zeros(&mut self, row: &mut Row<'_>) -> Stepped {
         let zeros = vec![in row.alloc(); 0u8; row.number()]?;
         self.nsid(row, &zeros)

@@ -25,7 +25,7 @@ impl Calls for Forged {
     }
 }
 
-/// How many of so many forged answers to the query of the next words lead to anything. Each has the octets after the identifier
+/// How many of that many forged answers to the query of the next words lead to anything. Each has the octets after the identifier
 /// that follow.
 fn count_taken(row: &mut Row<'_>) {
     let settings = Settings::new(row.alloc());
@@ -63,7 +63,7 @@ fn begun(row: &mut Row<'_>, proxy: &mut Proxy<ServerFront<CachedFront>>) -> bool
     )
 }
 
-/// How many of so many answers lead to anything. Their identifiers are all in turn; where one is the right one, its port is not.
+/// How many of that many answers lead to anything. Their identifiers are all in turn; if one is the right one, its port is not.
 fn count(
     row: &mut Row<'_>,
     proxy: &mut Proxy<ServerFront<CachedFront>>,

@@ -23,7 +23,7 @@ pub(crate) const CLIENT: SocketAddr = SocketAddr {
     port: 5353,
 };
 
-/// A proxy by some settings and networks that need a cookie, of so many queries and replies in the cache as the next words say.
+/// A proxy by some settings and networks that need a cookie, of as many queries and replies in the cache as the next words say.
 pub(crate) fn next_proxy(
     row: &mut Row<'_>,
     settings: Settings,

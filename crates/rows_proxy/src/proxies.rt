@@ -51,7 +51,7 @@ struct Stepped {
 }
 
 impl Steps for Stepped {
-    /// A client's message, in a datagram, which may wait where the proxy is full, or over a connection; an event of the query at a place:
+    /// A client's message, in a datagram, which may wait if the proxy is full, or over a connection; an event of the query at a place:
     /// a datagram, a message over a connection, that it was lost, or the time; or when a tick at a place is due.
     fn take_step(&mut self, step: &str, row: &mut Row<'_>) {
         match step {
@@ -167,7 +167,7 @@ fn led(row: &mut Row<'_>, outcome: Result<QueryOutcome, OutOfMemory>) {
     }
 }
 
-/// Octets that are sent, if there are some, behind a word.
+/// Octets that are sent, if there are some, after a word.
 fn sent(row: &mut Row<'_>, word: &str, octets: Option<Octets>) {
     row.say(word);
     if let Some(octets) = octets {

@@ -31,7 +31,7 @@ fn with_limit(limit: usize) -> StreamConfig {
     stream
 }
 
-/// A call by its name; `reconfigure` has a new limit behind a colon.
+/// A call by its name; `reconfigure` has a new limit after a colon.
 fn call_named(name: &str) -> Result<Call, RowError> {
     match name {
         "admit" => Ok(Call::Admit),

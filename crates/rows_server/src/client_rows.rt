@@ -151,7 +151,7 @@ fn gone_through<S: SharedService>(
 /// Lets a value go, in a function that needn't know of what type it is.
 fn let_go<T: Drop>(_value: T) {}
 
-/// A core is stepped through steps, beside a book on which the events that all clients hear act. Whether memory was wanting.
+/// A core is stepped through steps, beside a book on which the events that all clients hear act. Whether memory ran out.
 fn stepped_through<S: SharedService>(
     row: &mut Row<'_>,
     core: &mut ClientCore<S>,
@@ -170,7 +170,7 @@ fn stepped_through<S: SharedService>(
     lost
 }
 
-/// Says what waits for the driver of a core after a step, or nothing, and whether memory was wanting till then.
+/// Says what waits for the driver of a core after a step, or nothing, and whether memory ran out until then.
 fn step_said<S: SharedService>(
     row: &mut Row<'_>,
     core: &ClientCore<S>,
@@ -243,7 +243,7 @@ fn noted(book: &mut BookState, kind: &EventKind) -> bool {
     }
 }
 
-/// Whether a core is closed, how many frames wait, the first of them, the first request that isn't done, and the first behind
+/// Whether a core is closed, how many frames wait, the first of them, the first request that isn't done, and the first after
 /// number 0.
 fn say_waiting<S: SharedService>(row: &mut Row<'_>, core: &ClientCore<S>) {
     row.show(&core.is_closed());

@@ -64,7 +64,7 @@ fn say_whole<S: Source>(row: &mut Row<'_>, source: &mut S) {
     }
 }
 
-/// The numbers of the calls that fail: the one, where there is one.
+/// The numbers of the calls that fail: the one, if there is one.
 pub(crate) fn failing(row: &mut Row<'_>, number: Option<u64>) -> Vec<u64> {
     let mut numbers = Vec::new(row.alloc());
     if let Some(number) = number {
@@ -73,7 +73,7 @@ pub(crate) fn failing(row: &mut Row<'_>, number: Option<u64>) -> Vec<u64> {
     numbers
 }
 
-/// A source of which one call fails and which gives so many octets a call is read whole twice: what the first gives, what
+/// A source of which one call fails and which gives that many octets a call is read whole twice: what the first gives, what
 /// is left then, and what the second gives.
 fn memory_source(row: &mut Row<'_>) {
     let number = row.number();
@@ -92,7 +92,7 @@ fn say_written(row: &mut Row<'_>, sink: &mut MemorySink) {
     row.hexadecimal(sink.written())
 }
 
-/// Two pieces are written whole to a sink of which one call fails and which takes so many octets a call.
+/// Two pieces are written whole to a sink of which one call fails and which takes that many octets a call.
 fn memory_sink(row: &mut Row<'_>) {
     let number = row.number();
     let failing = failing(row, Some(number));

@@ -86,7 +86,7 @@ pub(crate) fn sink(row: &mut Row<'_>, number: Option<u64>) -> MemorySink {
     MemorySink::new(Vec::new(row.alloc()), failing, 40)
 }
 
-/// Whether a source that had so many octets has them still.
+/// Whether a source that had that many octets has them still.
 pub(crate) fn untouched(source: &MemorySource, size: usize) -> &'static str {
     if source.left().len() == size {
         "untouched"
@@ -113,7 +113,7 @@ fn of_script(row: &mut Row<'_>, word: &str) {
     written(row, &words, &mut source)
 }
 
-/// How the run of words ends where one read and one write fail, or none, whether anything was read, and what it writes.
+/// How the run of words ends if one read and one write fail, or none, whether anything was read, and what it writes.
 fn with_faults(row: &mut Row<'_>) {
     let words = next_words(row);
     let read = row.optional();
@@ -137,7 +137,7 @@ fn run_with_fault(
     say_text(row, sink.written())
 }
 
-/// How the run of words over a script ends where one read and one write fail, or none, and in brackets what it writes.
+/// How the run of words over a script ends if one read and one write fail, or none, and in brackets what it writes.
 fn one_fails(
     row: &mut Row<'_>,
     words: &[String],

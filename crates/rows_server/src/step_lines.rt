@@ -14,7 +14,7 @@ pub(crate) fn steps_of(alloc: Global, lines: &str) -> Result<Vec<Step>, RowError
     Ok(steps)
 }
 
-/// Puts the step of a line behind the others.
+/// Puts the step of a line after the others.
 fn add_step(alloc: Global, line: &str, steps: &mut Vec<Step>) -> Result<(), RowError> {
     let words = Words::of(alloc, line.as_bytes())?;
     match read_step(alloc, &words) {

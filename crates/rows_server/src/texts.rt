@@ -35,7 +35,7 @@ pub(crate) fn say_text(row: &mut Row<'_>, octets: &[u8]) {
     row.say(text.as_str());
 }
 
-/// Says octets as lines, in brackets behind what stands there.
+/// Says octets as lines, in brackets after what stands there.
 pub(crate) fn say_in_brackets(row: &mut Row<'_>, octets: &[u8]) {
     let text = text_of(row, octets);
     row.close("(");
@@ -52,7 +52,7 @@ pub(crate) fn parted(row: &mut Row<'_>, all: &str) -> Vec<String> {
     words
 }
 
-/// Puts a word behind the others.
+/// Puts a word after the others.
 pub(crate) fn keep_word(row: &mut Row<'_>, words: &mut Vec<String>, word: &str) {
     match String::from_str(row.alloc(), word) {
         Ok(word) => row.keep(words.push(word)),

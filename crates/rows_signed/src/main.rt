@@ -1,6 +1,6 @@
 //! Rows of signed zones, on standard input. `crates/rows_table` says how a row is written.
 //!
-//! - `nsec_hash` hashes a name with a salt and so many iterations (RFC 5155, section 5).
+//! - `nsec_hash` hashes a name with a salt and that many iterations (RFC 5155, section 5).
 //! - `signed` makes a zone of an apex, records and NSECs (an owner, a next name and types, parted by `:`, `+` and commas), and
 //!   says the owners of those that deny what is asked for: names and types. `secured` does so with the NSECs that are among the
 //!   records.

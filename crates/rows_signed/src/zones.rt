@@ -19,7 +19,7 @@ pub(crate) fn next_records(row: &mut Row<'_>) -> Vec<Record>
     records
 }
 
-/// Appends the record of a word, but for `-`.
+/// Appends the record of a word, except for `-`.
 fn push_record(row: &mut Row<'_>, records: &mut Vec<Record>, word: &str)
     requires { AreLawful records.old.items }
     ensures { AreLawful records.new.items }

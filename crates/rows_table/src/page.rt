@@ -20,7 +20,7 @@ pub(crate) fn pages<'a>(alloc: Global, text: &'a str) -> Result<Vec<Page<'a>>, R
     Ok(pages)
 }
 
-/// Appends the octets of a word, where it is hexadecimal.
+/// Appends the octets of a word, if it is hexadecimal.
 fn push_page<'a>(alloc: Global, pages: &mut Vec<Page<'a>>, word: &'a str) -> Result<(), RowError> {
     match hex::decode(alloc, word) {
         Ok(octets) => Ok(pages.push(Page { word, octets })?),

@@ -16,7 +16,7 @@ pub(crate) fn push_line(text: &mut String, line: &str) -> Result<(), RowError> {
     }
 }
 
-/// Appends what a brace opens: a repetition and what is behind it.
+/// Appends what a brace opens: a repetition and what is after it.
 fn push_part(text: &mut String, part: &str) -> Result<(), RowError> {
     match part.split_once('}') {
         Some((repetition, rest)) => {
@@ -27,7 +27,7 @@ fn push_part(text: &mut String, part: &str) -> Result<(), RowError> {
     }
 }
 
-/// Appends the text in front of the last `*` as often as the number behind it says.
+/// Appends the text in front of the last `*` as often as the number after it says.
 fn push_repetition(text: &mut String, repetition: &str) -> Result<(), RowError> {
     let (piece, times) = repetition.rsplit_once('*').unwrap_or(("", ""));
     match times.parse::<u16>() {

@@ -1,4 +1,4 @@
-//! What is told of a table whose rows are judged.
+//! What is reported of a table whose rows are judged.
 
 use crate::Row;
 use std::alloc::Global;
@@ -38,7 +38,7 @@ impl<'a> Report<'a> {
         is_row
     }
 
-    /// The row fails where it has a fault or says something else than what is wanted.
+    /// The row fails if it has a fault or says something else than what is wanted.
     pub(crate) fn compare(&mut self, row: &Row<'_>, wanted: &str) {
         match row.fault {
             Some(fault) => self.fail(fault.as_str()),
@@ -47,7 +47,7 @@ impl<'a> Report<'a> {
         }
     }
 
-    /// The row fails, with what is said in place of what it wants. Where there is no memory for the line, it fails without.
+    /// The row fails, with what is said in place of what it wants. If there is no memory for the line, it fails without.
     pub(crate) fn fail(&mut self, said: &str) {
         self.failed = self.failed.saturating_add(1);
         let _ = writeln!(
@@ -57,7 +57,7 @@ impl<'a> Report<'a> {
         );
     }
 
-    /// Prints what is told. The status is 0 where all rows hold.
+    /// Prints what is reported. The status is 0 if all rows hold.
     pub(crate) fn print<R: Print>(&self, rt: &R) -> io::Result<ExitCode> {
         rt.println(self)?;
         match self.failed {

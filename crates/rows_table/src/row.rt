@@ -44,14 +44,14 @@ impl<'a> Row<'a> {
         self.alloc
     }
 
-    /// Keeps a fault, where it is the first.
+    /// Keeps a fault, if it is the first.
     pub fn fail(&mut self, fault: RowError) {
         if self.fault.is_none() {
             self.fault = Some(fault);
         }
     }
 
-    /// Keeps a fault, where it is the first; a refusal of octets is no fault, but then all that the row says.
+    /// Keeps a fault, if it is the first; a refusal of octets is no fault, but then all that the row says.
     pub fn give_up(&mut self, fault: RowError) {
         match fault {
             RowError::Refused(error) => self.refuse(error),
@@ -134,7 +134,7 @@ impl<'a> Row<'a> {
         }
     }
 
-    /// So many octets of the next word in hexadecimal.
+    /// That many octets of the next word in hexadecimal.
     pub fn array<const N: usize>(&mut self) -> [u8; N] {
         let octets = array_of(self.word());
         self.read(octets, [0; N])
@@ -179,7 +179,7 @@ impl<'a> Row<'a> {
         self.read(number_of(word), N::default())
     }
 
-    /// The number of the next word, or none where it is `none`.
+    /// The number of the next word, or none if it is `none`.
     pub fn optional<N: FromStr + Default + Drop>(&mut self) -> Option<N>
     where
         N::Err: Drop,

@@ -9,7 +9,7 @@ impl Row<'_> {
         self.said.as_str()
     }
 
-    /// Keeps the want of memory that a call met, whose only refusal that is.
+    /// Keeps that a call ran out of memory, which is its only refusal.
     pub fn keep<E: Drop>(&mut self, done: Result<(), E>) {
         match done {
             Ok(()) => {}
@@ -24,7 +24,7 @@ impl Row<'_> {
         }
     }
 
-    /// Says a text, behind what stands there with no space between.
+    /// Says a text, after what stands there with no space between.
     pub fn close(&mut self, text: &str) {
         let done = self.said.push_str(text);
         self.keep(done);
@@ -38,7 +38,7 @@ impl Row<'_> {
         }
     }
 
-    /// Says what a value displays, behind what stands there with no space between.
+    /// Says what a value displays, after what stands there with no space between.
     pub fn close_shown<T: Display>(&mut self, value: &T) {
         let done = write!(self.said, "{value}");
         self.keep(done);
@@ -103,7 +103,7 @@ impl Row<'_> {
         self.close_octets(octets);
     }
 
-    /// Says octets behind what stands there with no space between.
+    /// Says octets after what stands there with no space between.
     fn close_octets(&mut self, octets: &[u8]) {
         if octets.is_empty() {
             return self.close("-");

@@ -1,4 +1,4 @@
-//! A table of rows is read from standard input, and each row that doesn't hold is told.
+//! A table of rows is read from standard input, and each row that doesn't hold is reported.
 
 use crate::page::pages;
 use crate::repeats::push_line;
@@ -31,7 +31,7 @@ pub trait Steps {
     fn take_step(&mut self, step: &str, row: &mut Row<'_>);
 }
 
-/// Asks a row's call of its arguments. Reports what it says where that isn't what is wanted.
+/// Asks a row's call of its arguments. Reports what it says if that isn't what is wanted.
 fn answered<C: Calls>(calls: &C, row: Row<'_>, wanted: &str, report: &mut Report<'_>) {
     let mut row = row;
     let call = row.word();
@@ -64,7 +64,7 @@ fn line_judged<'a, C: Calls>(alloc: Global, calls: &C, line: &'a str, report: &m
     }
 }
 
-/// What is told of the rows of a table.
+/// What is reported of the rows of a table.
 fn report<'a, C: Calls>(alloc: Global, calls: &C, table: &'a str) -> Report<'a> {
     let mut report = Report::new(alloc);
     for line in table.lines() {
@@ -74,7 +74,7 @@ fn report<'a, C: Calls>(alloc: Global, calls: &C, table: &'a str) -> Report<'a> 
 }
 
 /// Judges the rows of standard input and prints how many there are and how many failed, with a line for each of these.
-/// Empty lines and lines that begin with `#` are no rows. The status is 0 where all rows hold.
+/// Empty lines and lines that begin with `#` are no rows. The status is 0 if all rows hold.
 pub fn run<R: Input + Print + AllocGlobal, C: Calls>(rt: &R, calls: &C) -> io::Result<ExitCode> {
     match io::read_to_string(rt.alloc(), rt.reader()) {
         Ok(table) => report(rt.alloc(), calls, table.as_str()).print(rt),

@@ -9,7 +9,7 @@ use dns_name::IpAddr;
 use hex::FromHex;
 use std::str::FromStr;
 
-/// So many octets of a word in hexadecimal.
+/// That many octets of a word in hexadecimal.
 pub fn array_of<const N: usize>(word: &str) -> Result<[u8; N], RowError>
     ensures ok { IfOk result (λ octets. decode_sized word.now N ≡ Ok octets) }
     ensures err { OnErr result (IsErr (decode_sized word.now N)) }

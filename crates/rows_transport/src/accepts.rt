@@ -17,7 +17,7 @@ use std::sync::atomic::{AtomicBool, Ordering};
 use std::sync::{Arc, Wait};
 use std::thread::Threads;
 
-/// A query for the root's address, with id 1, behind its length.
+/// A query for the root's address, with id 1, after its length.
 const QUERY: &[u8] =
     b"\x00\x11\x00\x01\x01\x00\x00\x01\x00\x00\x00\x00\x00\x00\x00\x00\x01\x00\x01";
 
@@ -303,7 +303,7 @@ const CASES: &[(&'static str, AcceptCase<'static>)] = &[
     ),
 ];
 
-/// What a test ends with, where all are served as is wanted, and else the name of the first that isn't.
+/// What a test ends with, if all are served as is wanted, and else the name of the first that isn't.
 fn all_hold<R: Threads + Wait + Copy + Send + Sync + Drop + 'static>(
     rt: &R,
     alloc: Global,

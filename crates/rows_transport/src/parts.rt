@@ -66,7 +66,7 @@ fn leave_out(metrics: &ServerMetrics) -> bool {
 /// Octets of frames: one of three octets, two empty ones, one of one octet, and one that isn't whole.
 const FRAMES: &[u8] = b"\x00\x03abc\x00\x00\x00\x01d\x00\x05begun";
 
-/// Reads and writes all of a link, so many octets a call.
+/// Reads and writes all of a link, that many octets a call.
 fn pass_all(link: &mut Metered<SteadyLink>, octets: &[u8]) {
     let mut room = [0u8; 4];
     for _ in 0..100u8 {
@@ -121,7 +121,7 @@ fn counts(alloc: Global) -> bool {
     }
 }
 
-/// What a test ends with, where all parts do as is wanted, and else the name of the first that doesn't.
+/// What a test ends with, if all parts do as is wanted, and else the name of the first that doesn't.
 fn all_hold(alloc: Global) -> Result<(), &'static str> {
     // Buffers have 1,024 octets 0, or as many as are asked for, from a source that is shared too.
     if !gives_both(alloc) {

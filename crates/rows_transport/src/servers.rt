@@ -30,6 +30,7 @@ const QUERY: &[u8] = b"\x12\x34\x01\x00\x00\x01\x00\x00\x00\x00\x00\x00\x00\x00\
 pub const FRAME: &[u8] =
     b"\x00\x1c\x12\x34\x01\x00\x00\x01\x00\x00\x00\x00\x00\x01\x00\x00\x01\x00\x01\x00\x00\x29\x00\x00\x00\x00\x00\x00\x00\x00";
 
+/// The answer to `FRAME`.
 pub const ANSWER: &[u8] =
     b"\x00\x22\x12\x34\x81\x00\x00\x01\x00\x00\x00\x00\x00\x01\x00\x00\x01\x00\x01\x00\x00\x29\x00\x00\x00\x00\x00\x00\x00\x06\x00\x0b\x00\x02\x01\x2c";
 
@@ -72,7 +73,7 @@ struct DgramCase {
 }
 
 impl DgramCase {
-    /// Whether the server answers one datagram, or none where it is closed before.
+    /// Whether the server answers one datagram, or none if it is closed before.
     fn is_served<R: Threads + Wait + Sync, W: SharedService>(
         &self,
         mailing: &mut Mailing<'_, R, W>,
@@ -161,14 +162,14 @@ fn sock(alloc: Global) -> Result<SteadySock, OutOfMemory> {
 const CASES: &[(&'static str, DgramCase)] = &[
     // A query is answered, and the server is shut down and shows what it counted.
     ("a_datagram_is_answered", DgramCase { is_closed: false }),
-    // Where the book is closed before, nothing is served.
+    // If the book is closed before, nothing is served.
     (
         "a_closed_server_serves_nothing",
         DgramCase { is_closed: true },
     ),
 ];
 
-/// What a test ends with, where all are served as is wanted, and else the name of the first that isn't.
+/// What a test ends with, if all are served as is wanted, and else the name of the first that isn't.
 fn all_hold<R: Threads + Wait + Sync>(
     rt: &R,
     alloc: Global,

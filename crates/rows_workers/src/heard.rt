@@ -24,7 +24,7 @@ pub(crate) struct Heard {
     pub(crate) shutdown: u64,
 }
 
-/// What changes the state of a server that is idle for so many milliseconds before each change.
+/// What changes the state of a server that is idle for that many milliseconds before each change.
 #[derive(Drop)]
 struct Changes {
     idle: u64,
@@ -116,7 +116,7 @@ fn changes_of<R: Wait>(
     Ok((changes, first))
 }
 
-/// How soon so many workers of loopback hear that were idle for so many milliseconds, if they could be opened and all heard.
+/// How soon that many workers of loopback hear that were idle for that many milliseconds, if they could be opened and all heard.
 pub(crate) fn of_idle<R: Net + rt::Clock + Threads + Wait + Copy + Send + Sync + Drop + 'static>(
     rt: R,
     alloc: Global,

@@ -33,7 +33,7 @@ pub(crate) type Machine<R, W> = WorkersHost<
     VecRecorder,
 >;
 
-/// So many workers, at least one, that share a port of loopback, and the port.
+/// That many workers, at least one, that share a port of loopback, and the port.
 pub(crate) fn open_workers<R: Net + rt::Clock + Copy>(
     rt: R,
     alloc: Global,

@@ -1,9 +1,9 @@
 //! What of hosts with several workers can't be a row: hosts over objects in memory, with threads and receives that fail, and one over
 //! sockets of this machine. These are tests.
 //!
-//! As a program it serves by so many workers as its first word says, which are idle for so many milliseconds as the second says. Then it
-//! replaces the settings, waits as long, and shuts the server down. It prints after how many milliseconds the last of the workers heard
-//! of the one and of the other. Without words it does nothing. `bench/workers` runs it.
+//! As a program it serves by as many workers as its first word says, which are idle for as many milliseconds as the second says.
+//! Then it replaces the settings, waits as long, and shuts the server down. It prints after how many milliseconds the last of the
+//! workers heard of the one and of the other. Without words it does nothing. `bench/workers` runs it.
 #![tactic(auto)]
 
 mod heard;

@@ -34,7 +34,7 @@ impl Note {
         None
     }
 
-    /// When the last of these workers noted it first; none where one did not.
+    /// When the last of these workers noted it first; none if one did not.
     pub(crate) fn last_moment<D, C>(self, workers: &[Worker<D, C, VecRecorder>]) -> Option<u64> {
         let mut last = 0u64;
         for worker in workers {

@@ -25,7 +25,7 @@ const SECOND: &[u8] = b"\x00\x02\x01\x00\x00\x01\x00\x00\x00\x00\x00\x00\x00\x00
 const SECOND_REPLY: &[u8] =
     b"\x00\x02\x81\x00\x00\x01\x00\x00\x00\x00\x00\x01\x00\x00\x01\x00\x01\x00\x00\x29\x00\x00\x00\x00\x00\x00\x00\x00";
 
-/// Such a query with id 3 on a connection, behind its length, and its reply.
+/// Such a query with id 3 on a connection, after its length, and its reply.
 const FRAME: &[u8] =
     b"\x00\x11\x00\x03\x01\x00\x00\x01\x00\x00\x00\x00\x00\x00\x00\x00\x01\x00\x01";
 
@@ -102,13 +102,13 @@ fn workers_of(alloc: Global, cases: &[WorkerCase<'_>]) -> Result<Vec<MemoryWorke
     Ok(workers)
 }
 
-/// A shared service whose first poll is held where that is said.
+/// A shared service whose first poll is held if that is said.
 fn service_of(alloc: Global, is_held: bool) -> Result<Arc<WithoutMeta<Holding>>, OutOfMemory> {
     let service = Holding::new(alloc, !is_held, OptRcode::NOERROR)?;
     Ok(Arc::new(alloc, WithoutMeta { service })?)
 }
 
-/// A book with ten slots, shut down where that is said.
+/// A book with ten slots, shut down if that is said.
 fn book_for<R: Wait>(
     rt: &R,
     alloc: Global,
@@ -260,7 +260,7 @@ const CASES: &[(&'static str, HostCase<'static>)] = &[
             ..BOTH
         },
     ),
-    // Where the book is closed nothing is served, and all end.
+    // If the book is closed nothing is served, and all end.
     (
         "a_shutdown_ends_all",
         HostCase {

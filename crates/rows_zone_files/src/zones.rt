@@ -1,4 +1,4 @@
-//! The calls of dns_zone_file. In a text of a zone file, which is all words behind the origin, `|` stands for LF.
+//! The calls of dns_zone_file. In a text of a zone file, which is all words after the origin, `|` stands for LF.
 
 ghost use Rattle.std.specs.Prelude.{◌<◌, length};
 

@@ -12,7 +12,7 @@ use std::alloc::{AllocError, Global};
 use std::fmt::Write;
 use std::fs;
 
-/// Reads and judges the zone of one file, and puts it behind the others.
+/// Reads and judges the zone of one file, and puts it after the others.
 fn load_zone(
     rt: &HostRuntime,
     generation: &mut Generation,
@@ -31,7 +31,7 @@ fn load_zone(
     added.context(format_args!("{file}"))
 }
 
-/// Whether a zone stands among the first so many of a configuration.
+/// Whether a zone stands among the first that many of a configuration.
 fn stands_before(config: &Config, count: usize, entry: &ZoneEntry) -> bool {
     for other in config.zone.iter().take(count) {
         if other.name.name.name_eq(&entry.name.name.for_ref()) {
@@ -51,7 +51,7 @@ fn is_without_copy(secondaries: &[Secondary], entry: &ZoneEntry) -> bool {
     false
 }
 
-/// Puts a zone that has a primary behind the others: its copy, where there is one that is a zone, and else without data.
+/// Puts a zone that has a primary after the others: its copy, if there is one that is a zone, and else without data.
 fn load_copy(
     rt: &HostRuntime,
     generation: &mut Generation,
@@ -68,7 +68,7 @@ fn load_copy(
     Ok(())
 }
 
-/// Puts a zone behind the others, whether it has a primary or not.
+/// Puts a zone after the others, whether it has a primary or not.
 fn load_entry(
     rt: &HostRuntime,
     generation: &mut Generation,

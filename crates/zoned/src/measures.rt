@@ -1,6 +1,6 @@
-//! What is measured of a server, as it is told at its page of metrics.
+//! What is measured of a server, as its page of metrics reports it.
 
-use crate::served::Served;
+use crate::served::ServedConfig;
 use dns_config::ZoneEntry;
 use dns_generation::ZoneSummary;
 use dns_listener::{Counters, Numbers};
@@ -42,7 +42,7 @@ fn shown_zone(
 
 impl Shown {
     /// The generation that is served.
-    pub(crate) fn of(alloc: Global, served: &Served) -> Result<Shown, AllocError> {
+    pub(crate) fn of(alloc: Global, served: &ServedConfig) -> Result<Shown, AllocError> {
         let summaries = served.zones.summaries.as_slice();
         let mut zones = Vec::new(alloc);
         for (entry, summary) in served.config.zone.iter().zip(summaries.iter()) {
@@ -156,7 +156,7 @@ pub(crate) struct Measures<R> {
 }
 
 impl<R: Clock + Wait> Measures<R> {
-    /// For how many seconds the server runs. Where the clock fails, none.
+    /// For how many seconds the server runs. If the clock fails, none.
     fn seconds(&self) -> u64 {
         match self.since.elapsed(&self.machine) {
             Ok(time) => time.as_secs(),
@@ -164,7 +164,7 @@ impl<R: Clock + Wait> Measures<R> {
         }
     }
 
-    /// Puts the generation that is served behind other metrics.
+    /// Puts the generation that is served after other metrics.
     fn push_shown(&self, alloc: Global, families: &mut Vec<Family>) -> Result<(), MetricError> {
         let shown = self.shown.lock(&self.machine);
         let (name, help) = ("zoned_generation", "The number of what is served.");

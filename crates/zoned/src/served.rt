@@ -31,24 +31,24 @@ fn judge_zones(
 
 /// A configuration, its settings and its zones as they are served.
 #[derive(Drop)]
-pub(crate) struct Served {
+pub(crate) struct ServedConfig {
     pub(crate) number: u64,
     pub(crate) config: Arc<Config>,
     pub(crate) settings: Settings,
     pub(crate) zones: Judged,
 }
 
-impl Served {
+impl ServedConfig {
     /// Reads and judges the zones of a configuration. Zones whose secondary has no copy are without data.
     fn of(
         rt: &HostRuntime,
         number: u64,
         config: Arc<Config>,
         secondaries: &[Secondary],
-    ) -> anyhow::Result<Served> {
+    ) -> anyhow::Result<ServedConfig> {
         let settings = config.settings(rt.alloc())?;
         let zones = judge_zones(rt, &config, secondaries)?;
-        Ok(Served {
+        Ok(ServedConfig {
             number,
             config,
             settings,
@@ -62,18 +62,18 @@ impl Served {
         number: u64,
         path: &str,
         secondaries: &[Secondary],
-    ) -> anyhow::Result<Served> {
+    ) -> anyhow::Result<ServedConfig> {
         let config = Arc::new(rt.alloc(), load_config(rt, path)?)?;
-        Served::of(rt, number, config, secondaries)
+        ServedConfig::of(rt, number, config, secondaries)
     }
 
-    /// What follows where a copy came or went: the zones of the configuration are read and judged again.
+    /// What follows if a copy came or went: the zones of the configuration are read and judged again.
     pub(crate) fn renewed(
         &self,
         rt: &HostRuntime,
         secondaries: &[Secondary],
-    ) -> anyhow::Result<Served> {
+    ) -> anyhow::Result<ServedConfig> {
         let config = Arc::try_clone(&self.config)?;
-        Served::of(rt, self.number.saturating_add(1), config, secondaries)
+        ServedConfig::of(rt, self.number.saturating_add(1), config, secondaries)
     }
 }

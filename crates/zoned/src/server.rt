@@ -3,7 +3,7 @@
 use crate::load::report;
 use crate::measures::{Measures, Shown};
 use crate::orders::{Order, hear};
-use crate::served::Served;
+use crate::served::ServedConfig;
 use anyhow::Context;
 use dns_config::Config;
 use dns_control::{Caller, Control};
@@ -24,7 +24,7 @@ use std::sync::{Arc, Mutex, Wait};
 use std::thread::{self, Threads};
 use std::time::{Duration, Instant};
 
-/// How often it is looked whether something is asked.
+/// How often it looks whether something is asked.
 const LOOK_MILLIS: u64 = 50;
 
 /// How many milliseconds a second has.
@@ -49,7 +49,7 @@ enum Phase {
 struct Server {
     path: String,
     since: Instant,
-    served: Served,
+    served: ServedConfig,
     copies: Copies,
     notifier: Notifier,
     counters: Arc<Counters>,
@@ -68,7 +68,7 @@ fn refuse(rt: &HostRuntime, caller: &mut Caller, fault: &anyhow::Error) -> anyho
     Ok(())
 }
 
-/// Opens the control socket, where one is named.
+/// Opens the control socket, if one is named.
 fn open_control<R: Net + Files>(
     machine: &R,
     alloc: Global,
@@ -92,7 +92,7 @@ impl Server {
         let since = Instant::now(rt)?;
         let counters = Arc::new(alloc, Counters::new(alloc)?)?;
         let copies = Copies::new(alloc)?;
-        let served = Served::load(rt, 1, path, &[])?;
+        let served = ServedConfig::load(rt, 1, path, &[])?;
         let shown = Arc::new(alloc, Mutex::new(Shown::of(alloc, &served)?))?;
         let path = String::from_str(alloc, path)?;
         Ok(Server {
@@ -132,7 +132,7 @@ impl Server {
         Ok(SocketAddr { ip, port })
     }
 
-    /// Opens all sockets, and says where is listened.
+    /// Opens all sockets, and writes the addresses at which it listens.
     fn open<R: Net + Files + Clock + RandomSource + Threads + Wait + Copy + Send + Sync + 'static>(
         &mut self,
         machine: R,
@@ -169,7 +169,7 @@ impl Server {
     }
 
     /// Goes on to another generation.
-    fn go_on(&mut self, rt: &HostRuntime, served: Served) -> anyhow::Result<()> {
+    fn go_on(&mut self, rt: &HostRuntime, served: ServedConfig) -> anyhow::Result<()> {
         self.served = served;
         self.phase = Phase::Renewed;
         self.follow_copies(rt)
@@ -203,7 +203,7 @@ impl Server {
         Ok(running)
     }
 
-    /// Appends a line for each zone, behind what stands before.
+    /// Appends a line for each zone, after what stands before.
     fn say_zones(&self, alloc: Global, caller: &mut Caller) -> anyhow::Result<()> {
         let served = &self.served;
         let text = report(alloc, &served.config, served.zones.summaries.as_slice())?;
@@ -232,10 +232,10 @@ impl Server {
         Ok(())
     }
 
-    /// Reads and judges what follows; where it is refused, what is served stays.
-    fn following(&self, rt: &HostRuntime) -> anyhow::Result<Served> {
+    /// Reads and judges what follows; if it is refused, what is served stays.
+    fn following(&self, rt: &HostRuntime) -> anyhow::Result<ServedConfig> {
         let number = self.served.number.saturating_add(1);
-        Served::load(rt, number, self.path.as_str(), self.copies.as_slice())
+        ServedConfig::load(rt, number, self.path.as_str(), self.copies.as_slice())
     }
 
     /// Goes on to what follows, if it isn't refused, and says so.
@@ -282,7 +282,7 @@ impl Server {
         }
     }
 
-    /// Looks at the copies and at those who were told of a serial. Where another copy came, or one went, the zones are read and
+    /// Looks at the copies and at those who were told of a serial. If another copy came, or one went, the zones are read and
     /// judged again.
     fn look<R: Net + Files + Threads + Log>(
         &mut self,
@@ -334,7 +334,7 @@ impl Server {
         close_all(machine, running);
     }
 
-    /// Tells of the serials that are served. That this fails is logged.
+    /// Sends NOTIFY for the serials that are served (`tell_changes`). A failure is logged.
     fn tell<R: Net + RandomSource + Log>(
         &mut self,
         machine: &R,

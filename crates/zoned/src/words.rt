@@ -13,7 +13,7 @@ fn config_word<'a>(alloc: Global) -> Arg<'a> {
         .help("The configuration, in TOML")
 }
 
-/// The program's words: a configuration, alone or behind `check`, or behind `ctl` with an order.
+/// The program's words: a configuration, alone or after `check`, or after `ctl` with an order.
 pub(crate) fn command<'a>(alloc: Global) -> Result<Command<'a>, AllocError> {
     let check = Command::new(alloc, "check")
         .about(

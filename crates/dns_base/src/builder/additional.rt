@@ -44,7 +44,7 @@ impl AdditionalBuilder {
     }
 
     /// Puts a record in place of the additional records of a type; it becomes the last. Refused `ShortBuf` exactly
-    /// where the message would then pass its limit; a refused call leaves the message.
+    /// if the message would then pass its limit; a refused call leaves the message.
     pub fn replace_type(
         &mut self,
         alloc: Global,
@@ -74,7 +74,7 @@ impl AdditionalBuilder {
     }
 
     /// Puts an OPT record of these options in place of the OPT records; it becomes the last. Refused `ShortBuf` exactly
-    /// where the message would then pass its limit; a refused call leaves the message.
+    /// if the message would then pass its limit; a refused call leaves the message.
     pub fn replace_opt(
         &mut self,
         alloc: Global,

@@ -77,7 +77,7 @@ fn questions_built(
     Ok(builder)
 }
 
-/// The message of these parts, which may take 65,535 octets. Refused `ShortBuf` exactly where it would take more.
+/// The message of these parts, which may take 65,535 octets. Refused `ShortBuf` exactly if it would take more.
 pub fn assemble(
     alloc: Global,
     header: Header,

@@ -33,7 +33,7 @@ impl<S: RecordStage> Builder<S> {
         self.draft.push_record(alloc, S::section(), added)
     }
 
-    /// Adds records in wire form, by one append. Refused `ShortBuf` exactly where the message would pass its limit with
+    /// Adds records in wire form, by one append. Refused `ShortBuf` exactly if the message would pass its limit with
     /// all of them; a refused call leaves the message.
     pub fn push_records(&mut self, added: &WireRecords) -> Result<(), PushError>
         ensures { Pushes self.old self.new (with_records S.section self.old added.now) result }

@@ -11,7 +11,7 @@ use crate::error::PushError;
 use crate::wire_records::WireRecords;
 use dns_message::number_at;
 
-/// Counts so many items more at a place of a message that stands behind two octets.
+/// Counts that many items more at a place of a message that stands after two octets.
 fn count_by(octets: &mut Vec<u8>, at: usize, more: usize)
     requires within { at + 3 < length octets.old.items }
     requires few { field at (drop 2 octets.old.items) + more < 65536 }

@@ -13,8 +13,8 @@ use dns_message::{Message, number_at, plain_questions};
 use std::alloc::Global;
 
 impl Draft {
-    /// Adds the questions of a message up to its first unreadable one, as far as each has room. Behind a header alone
-    /// they are added in one where they stand as they are written and all have room.
+    /// Adds the questions of a message up to its first unreadable one, as far as each has room. After a header alone
+    /// they are added in one if they stand as they are written and all have room.
     #[inline(always)]
     pub(crate) fn copy_questions(
         &mut self,
@@ -47,7 +47,7 @@ impl Draft {
         Ok(())
     }
 
-    /// Adds questions that stand up to a place of a message as they are written, behind a header alone.
+    /// Adds questions that stand up to a place of a message as they are written, after a header alone.
     #[inline(always)]
     fn copy_standing(&mut self, message: &[u8], end: usize) -> Result<(), PushError>
         requires records { NoRecords self.old.message }

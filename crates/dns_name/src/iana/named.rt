@@ -24,7 +24,7 @@ impl<K: Registered> Code<K> {
     }
 }
 
-/// The registered name, or the decimal number where there is none, behind TYPE for a record type and CLASS for a class
+/// The registered name, or the decimal number if there is none, after TYPE for a record type and CLASS for a class
 /// (RFC 3597, section 5).
 impl<K: Registered> fmt::Display for Code<K> {
     ghost output = { λ c. Some (code_text K.REGISTRY c) };
@@ -49,7 +49,7 @@ impl<K: Registered> HeaderCode<K> {
     }
 }
 
-/// The registered name, or the decimal number where there is none.
+/// The registered name, or the decimal number if there is none.
 impl<K: Registered> fmt::Display for HeaderCode<K> {
     ghost output = { λ c. Some (code_text K.REGISTRY c) };
 

@@ -13,7 +13,7 @@ impl<'a> NameRef<'a> {
         self.labels().next().is_none()
     }
 
-    /// The name behind the first label; the root has none.
+    /// The name after the first label; the root has none.
     pub fn parent(&self) -> Option<NameRef<'a>>
         ensures { result ≡ parent_of self.now }
     {
@@ -25,7 +25,7 @@ impl<'a> NameRef<'a> {
         Some(NameRef { octets: behind })
     }
 
-    /// The name behind so many labels, the root's where there are no more.
+    /// The name after that many labels, the root's if there are no more.
     pub fn behind(&self, skipped: usize) -> NameRef<'a>
         ensures { result ≡ drop skipped self.now }
     {
@@ -50,7 +50,7 @@ impl Name {
         self.for_ref().is_root()
     }
 
-    /// The name behind the first label; the root has none.
+    /// The name after the first label; the root has none.
     pub fn parent(&self) -> Option<NameRef<'_>>
         ensures { result ≡ parent_of self.now }
     {

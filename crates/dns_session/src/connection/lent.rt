@@ -41,7 +41,7 @@ impl<W: SharedService> OpenConnection<W> {
     }
 
     /// Takes the first frame of octets, before which nothing is kept, and says how many octets it was with its length. The
-    /// outcome is given where no more is to be taken.
+    /// outcome is given if no more is to be taken.
     fn take_lent_frame(
         &mut self,
         alloc: Global,

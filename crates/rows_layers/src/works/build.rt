@@ -9,7 +9,7 @@ use dns_opt::{BuildOpt, IdleTimeout};
 use dns_service::CopiedMessage;
 use std::alloc::Global;
 
-/// The parts of a message, but for its OPT record.
+/// The parts of a message, except for its OPT record.
 fn parts(alloc: Global, octets: &[u8]) -> Option<CopiedMessage> {
     match MessageRef::from_slice(octets) {
         Ok(message) => CopiedMessage::read(alloc, &message).ok(),
@@ -17,7 +17,7 @@ fn parts(alloc: Global, octets: &[u8]) -> Option<CopiedMessage> {
     }
 }
 
-/// Builds the response so many times, and gives the sum of the lengths and of the hash of the last one.
+/// Builds the response that many times, and gives the sum of the lengths and of the hash of the last one.
 pub(crate) fn built(alloc: Global, count: u64) -> Option<u64> {
     match parts(alloc, &RESPONSE) {
         Some(mut parts) => built_of(alloc, &mut parts, count),
@@ -40,7 +40,7 @@ fn built_of(alloc: Global, parts: &mut CopiedMessage, count: u64) -> Option<u64>
     Some(sum)
 }
 
-/// The length of the response of these parts and its five options, and its hash where it is the last.
+/// The length of the response of these parts and its five options, and its hash if it is the last.
 fn response_sum(alloc: Global, parts: &CopiedMessage, is_last: bool) -> Option<u64> {
     match parts.build(alloc, None) {
         Ok(mut builder) => {

@@ -8,7 +8,7 @@ use dns_name::{IpAddr, Serial};
 /// The key of RFC 9018, appendix A.1.
 const SECRET: [u8; 16] = *b"\xe5\xe9\x73\xe5\xa6\xb2\xa4\x3f\x48\xe7\xdc\x84\x9e\x37\xbf\xcf";
 
-/// The last of so many hashes of so many octets, before each of which the hash before it is written over the first eight.
+/// The last of that many hashes of that many octets, before each of which the hash before it is written over the first eight.
 pub(crate) fn hash_chain(len: usize, count: u64) -> u64
     requires least { 8 ≤ len }
     requires most { len ≤ 64 }
@@ -41,7 +41,7 @@ pub(crate) fn cookie(is_third: bool) -> Cookie {
     )
 }
 
-/// How many of so many checks of two cookies in turn agree, which is all of them.
+/// How many of that many checks of two cookies in turn agree, which is all of them.
 pub(crate) fn checks(count: u64) -> u64 {
     let comings = [
         (

@@ -4,7 +4,7 @@ use crate::works::response::RESPONSE;
 use dns_base::{MessageRef, QuestionIter, RecordIter, RecordRef, Rtype};
 use dns_opt::{AllOptData, ComposeOptData, OptData, OptRef};
 
-/// The sum of so many readings of the response, whose identifier is another each time.
+/// The sum of that many readings of the response, whose identifier is another each time.
 pub(crate) fn readings(count: u64) -> u64 {
     let mut octets = RESPONSE;
     let mut sum = 0u64;

@@ -33,7 +33,7 @@ pub(crate) struct Outside<T, C> {
 }
 
 impl<T, C> Outside<T, C> {
-    /// With memory for so many notes.
+    /// With memory for that many notes.
     pub(crate) fn new(alloc: Global, inner: T, clock: C, notes: u64) -> Outside<T, C> {
         Outside {
             watched: Watched::new(alloc, inner),
@@ -66,7 +66,7 @@ pub(crate) trait Case {
     fn is_ended(&self, end: Self::End, outside: &Self::Outside) -> bool;
 }
 
-/// Whether a case is served so by the service. Where memory is short it is not.
+/// Whether a case is served so by the service. If memory is short it is not.
 fn is_served<R: Wait, S: Service<()> + Drop, K: Case>(
     rt: &R,
     alloc: Global,
@@ -134,7 +134,7 @@ impl<K: Case> Trial<K> {
     }
 }
 
-/// What a test ends with, where all trials hold, and else the name of the first that doesn't.
+/// What a test ends with, if all trials hold, and else the name of the first that doesn't.
 pub(crate) fn all_hold<R: Wait, K: Case>(
     rt: &R,
     alloc: Global,

@@ -6,7 +6,7 @@ use dns_service::{Event, OutOfMemory};
 use dns_stream_driver::{Recorder, VecRecorder};
 use std::alloc::Global;
 
-/// A recorder that keeps what it notes, and is refused memory after so many notes. It tells nothing.
+/// A recorder that keeps what it notes, and is refused memory after that many notes. It tells nothing.
 #[derive(Drop)]
 pub struct Forgetful {
     left: u64,
@@ -14,7 +14,7 @@ pub struct Forgetful {
 }
 
 impl Forgetful {
-    /// A recorder with memory for so many notes, which has noted nothing.
+    /// A recorder with memory for that many notes, which has noted nothing.
     pub fn new(alloc: Global, left: u64) -> Forgetful {
         Forgetful {
             left,

@@ -56,7 +56,7 @@ impl LinkCase<'_> {
         }
     }
 
-    /// Serves a connection that is admitted, where no shutdown is shown. How it ends, and how many slots are taken then.
+    /// Serves a connection that is admitted, if no shutdown is shown. How it ends, and how many slots are taken then.
     fn serve_admitted<R: Wait, W: SharedService, L: Link, C: Clock>(
         &self,
         desk: Desk<'_, R, W>,
@@ -120,7 +120,7 @@ impl LinkCase<'_> {
         )
     }
 
-    /// Two seats in place of one, behind the shutdown where one is wanted before.
+    /// Two seats in place of one, after the shutdown if one is wanted before.
     fn seats<R: Wait>(&self, rt: &R, book: &Book, mut seat: BookSeat) -> (BookSeat, BookSeat)
         requires { seat.book ≡ book.now }
         ensures { (result.0.book ≡ seat.book) × (result.1.book ≡ seat.book) }

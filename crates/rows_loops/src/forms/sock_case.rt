@@ -93,7 +93,7 @@ impl SockCase<'_> {
     }
 }
 
-/// How so many datagrams are served at a desk over a socket, by a clock, into a recorder.
+/// How that many datagrams are served at a desk over a socket, by a clock, into a recorder.
 fn serve<R: Wait, W: SharedService, D: AsyncDgramSock, C: Clock, J: Recorder>(
     desk: Desk<'_, R, W>,
     sock: &mut D,

@@ -6,7 +6,7 @@ use dns_memory::{Clock, MemoryClock};
 use dns_name::OutOfMemory;
 use std::alloc::Global;
 
-/// A clock that gives the readings of another. Where they stand, the latest one is given again until it is told that this is
+/// A clock that gives the readings of another. When they stand, the latest one is given again until it is told that this is
 /// old. It tells nothing.
 #[derive(Drop)]
 pub struct Standing {

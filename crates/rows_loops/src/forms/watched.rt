@@ -16,7 +16,7 @@ pub struct Watched<T> {
     calls: Vec<u8>,
 }
 
-/// The letter of a wait of so many milliseconds.
+/// The letter of a wait of that many milliseconds.
 fn wait_letter(millis: u64) -> u8 {
     match millis {
         0 => b'0',

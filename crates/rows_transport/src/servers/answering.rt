@@ -37,7 +37,7 @@ where
     W::Future: Send,
     W::Stream: Send,
 {
-    /// Runs beside what shuts the server down once so many responses were sent. The control that did, and how the run ended.
+    /// Runs beside what shuts the server down once that many responses were sent. The control that did, and how the run ended.
     fn join(&mut self, metrics: &ServerMetrics, control: Control) -> (Control, StreamEnd)
         requires { W.can_call self.old.server.service }
     {
@@ -74,7 +74,7 @@ where
         }
     }
 
-    /// Whether so many connections are answered, the server is shut down, as a control shows that was made before, and what it
+    /// Whether that many connections are answered, the server is shut down, as a control shows that was made before, and what it
     /// counted is shown.
     fn answers(&mut self) -> bool
         requires { W.can_call self.old.server.service }
@@ -83,7 +83,7 @@ where
         self.answers_under(&mut early)
     }
 
-    /// Whether so many connections are answered, and the server is then shut down, as this control shows.
+    /// Whether that many connections are answered, and the server is then shut down, as this control shows.
     fn answers_under(&mut self, early: &mut Control) -> bool
         requires { W.can_call self.old.server.service }
     {
@@ -93,7 +93,7 @@ where
             && count(self.server.metrics(), self.wanted)
     }
 
-    /// Whether this server, with this hook, answers so many connections. The server is dropped then.
+    /// Whether this server, with this hook, answers that many connections. The server is dropped then.
     fn answers_hooked(
         rt: &R,
         alloc: Global,
@@ -115,7 +115,7 @@ where
         held
     }
 
-    /// Whether a server over this accept object, with this hook, answers so many connections.
+    /// Whether a server over this accept object, with this hook, answers that many connections.
     pub fn answers_over(
         rt: &R,
         alloc: Global,

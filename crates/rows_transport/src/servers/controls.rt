@@ -8,7 +8,7 @@ use std::time::Duration;
 /// How often a test looks whether what it waits for has come.
 const TURNS: u64 = 20_000;
 
-/// Shuts the server down once so many responses were sent and no connection is left, and gives the control back.
+/// Shuts the server down once that many responses were sent and no connection is left, and gives the control back.
 pub fn shut_down_after<R: Wait>(
     rt: &R,
     metrics: &ServerMetrics,
@@ -31,7 +31,7 @@ pub fn shows_shutdown<R: Wait>(rt: &R, mut control: Control, has_shut: bool) -> 
     has_shut && control.is_shutdown(rt)
 }
 
-/// Whether so many requests were received and as many responses sent, and no connection is left.
+/// Whether that many requests were received and as many responses sent, and no connection is left.
 pub fn count(metrics: &ServerMetrics, wanted: usize) -> bool {
     metrics.num_received_requests() == wanted
         && metrics.num_sent_responses() == wanted

@@ -1,4 +1,4 @@
--- The octets behind the first two, moved to the front, and then cut.
+-- The octets after the first two, moved to the front, and then cut.
 use Rattle.std.proofs.Common.{rules, ap, ◌∙◌, ◌-◌, ◌+◌, ◌≡◌, length, take, drop, arith, length-drop, take_all}
 use lib.Seq.{paste}
 use Rattle.std.proofs.lemmas.List.{with_items_is, places}

@@ -1,4 +1,4 @@
--- The cookie layer decides where it has a reply, and else the target or the service.
+-- The cookie layer decides if it has a reply, and else the target or the service.
 use Rattle.std.proofs.Common.{◌≡◌, ℕ, Option, ◌∙◌, ap, sym, refl}
 use Rattle.dns_service.specs.Transport.{hint_of}
 use Rattle.dns_layers.specs.Edns.{passed_by, transport_by}

@@ -8,7 +8,7 @@ use Rattle.dns_flood.specs.Counts.{IsAtMost, output_counts}
 use Rattle.dns_flood.specs.Flood.{flood_events, number_at}
 use Rattle.dns_flood.proofs.flood.count_each.Given as goal
 
--- so many events were made and served, and what was sent for them was counted
+-- that many events were made and served, and what was sent for them was counted
 abbrev pub invariant-loop-made : goal.invariant-loop-made
 invariant-loop-made g l =
     let answer = request_answer g.W.Future.ReplyFuture.answer g.W.Stream.ReplyStream.answer in

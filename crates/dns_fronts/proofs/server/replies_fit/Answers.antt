@@ -4,7 +4,7 @@ use Rattle.dns_middleware.specs.Wrapped.{hint_left}
 use Rattle.dns_fronts.proofs.Servings.{classic-limit, sent-fits}
 use Rattle.dns_fronts.specs.Caching.{cached_asks, cached_over}
 use Rattle.dns_fronts.specs.Required.{settings_for}
-use Rattle.dns_fronts.specs.Served.{sized_request}
+use Rattle.dns_fronts.specs.ServerReplies.{sized_request}
 use Rattle.dns_fronts.proofs.server.replies_fit.Goals as goal
 
 pub returns-clause-fits : goal.returns-clause-fits

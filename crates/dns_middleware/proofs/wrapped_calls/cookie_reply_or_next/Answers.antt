@@ -1,4 +1,4 @@
--- The cookie layer answers where it has a reply, and else the target or the given service.
+-- The cookie layer answers if it has a reply, and else the target or the given service.
 use Rattle.std.proofs.Common.{◌∙◌, refl}
 use Rattle.dns_service.specs.Transport.{hint_of}
 use Rattle.dns_layers.specs.Edns.{transport_by}

@@ -1,6 +1,6 @@
 use Rattle.dns_session.specs.Serving.{serving}
 use Rattle.dns_service.specs.PolledRequest.{request_answer}
-use Rattle.dns_core.proofs.Served.{own_goes}
+use Rattle.dns_core.proofs.AfterOwnEvent.{own_goes}
 use Rattle.dns_core.proofs.Stepping.{own_goes as step_own_goes}
 use Rattle.dns_core.proofs.server.Server.own.Goals as goal
 

@@ -1,4 +1,4 @@
--- The layers take a request, and the cache answers it where they pass it on and it has a young reply.
+-- The layers take a request, and the cache answers it if they pass it on and it has a young reply.
 use Rattle.std.proofs.Common.{◌≡◌, ◌∙◌, ap, subst, sym}
 use Rattle.std.proofs.lemmas.Result.{IfOk-weaker}
 use Rattle.dns_service.specs.Req.{Req}

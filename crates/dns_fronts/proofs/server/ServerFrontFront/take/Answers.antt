@@ -1,7 +1,7 @@
--- The front inside takes the request as it is sized, and what a server says of itself stands behind its rule.
+-- The front inside takes the request as it is sized, and what a server says of itself stands after its rule.
 use Rattle.std.proofs.Common.{◌≡◌, ◌∙◌, Option, ap, ℕ}
 use Rattle.dns_layers.specs.Edns.{passed_by}
-use Rattle.dns_fronts.specs.Served.{sized_request}
+use Rattle.dns_fronts.specs.ServerReplies.{sized_request}
 use Rattle.dns_fronts.proofs.Servings.{taken-so}
 use Rattle.dns_fronts.proofs.server.ServerFrontFront.take.Goals as goal
 

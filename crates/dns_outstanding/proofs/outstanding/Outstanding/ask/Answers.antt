@@ -1,4 +1,4 @@
--- A question that isn't asked is asked once behind the others.
+-- A question that isn't asked is asked once after the others.
 use Rattle.std.proofs.Common.{◌≡◌, ◌∙◌, false, List, ap, subst, sym}
 use Rattle.dns_outstanding.specs.declared.outstanding.AskedQuestion.{AskedQuestion}
 use Rattle.dns_outstanding.specs.Outstanding.{AreAskedOnce, is_asked}

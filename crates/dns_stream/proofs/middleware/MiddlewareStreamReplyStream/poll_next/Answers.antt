@@ -1,4 +1,4 @@
--- Behind a poll of its future a stream answers as the future does, or as the future's stream.
+-- After a poll of its future a stream answers as the future does, or as the future's stream.
 use Rattle.std.proofs.Common.{ℕ, suc, Result, IfOk, ◌≡◌, subst, sym}
 use Rattle.std.specs.Prelude.{OnOk}
 use Rattle.dns_stream.specs.Streams.{middleware_answer}

@@ -15,7 +15,7 @@ TransfersAreTheRecords Meta = (a : AuthorityState) (r : Req Meta) (q : Question)
     → may_transfer s.allowed r ≡ true → position is_long s.zone.records ≡ None → length (bunched (transfer_records s.zone)) ≤ n
     → joined_answers (authority_answer a r) n ≡ transfer_records s.zone
 
--- those of a zone that is made, since none of its records is long
+-- TransfersAreTheRecords for a zone that is made: none of its records is long
 abbrev pub TheZoneIsSent : Type 0 → ZoneState → Type 0
 TheZoneIsSent Meta z = (a : AuthorityState) (r : Req Meta) (q : Question) (s : ServedState) (n : ℕ) → AsksTransfer a r q s
     → s.zone ≡ z → may_transfer s.allowed r ≡ true → length (bunched (transfer_records z)) ≤ n

@@ -22,7 +22,7 @@ use Rattle.dns_proxy.specs.declared.front.Taken.TheVariants.{Own, Passed}
 use Rattle.dns_fronts.specs.declared.server_post.ServerPost.{ServerPost}
 use Rattle.dns_fronts.specs.declared.server_post.ServerRule.{ServerRule}
 
--- how many octets the server takes over UDP, where the settings say nothing 1,232
+-- how many octets the server takes over UDP; 1,232 if the settings say nothing
 abbrev pub udp_size : Settings → ℕ
 udp_size s = unwrap_or s.dgram.max_response_size 1232
 
@@ -30,21 +30,21 @@ udp_size s = unwrap_or s.dgram.max_response_size 1232
 abbrev pub sized_request : Req (Unit {0}) → Req (Unit {0})
 sized_request r = passed_by (size_of r) r
 
--- a reply with a server cookie, where there is one (RFC 7873, section 5.2)
+-- a reply with a server cookie, if there is one (RFC 7873, section 5.2)
 abbrev pub and_cookie : Option CookiePost → Msg → Msg
 and_cookie None m = m
 and_cookie (Some p) m = cookie_by p m
 
--- its OPT record states the server's own size (RFC 6891, section 6.2.3) and the request's DO (RFC 3225, section 3); it is cut where it has
+-- its OPT record states the server's own size (RFC 6891, section 6.2.3) and the request's DO (RFC 3225, section 3); it is cut if it has
 -- no room
 abbrev pub server_by : ServerPost → Msg → Msg
 server_by p m = sized p.limit (own_opt p.opt (and_cookie p.cookie m))
 
--- behind what the rule of the front inside makes of it
+-- after what the rule of the front inside makes of it
 abbrev pub behind : {R : Type 0} → (R → Msg → Msg) → ServerRule R → Msg → Msg
 behind rewriting p m = server_by p.post (rewriting p.inner m)
 
--- the rule for the replies to a request of at most so many octets, if that is limited, by the cookie that they carry
+-- the rule for the replies to a request of at most that many octets, if that is limited, by the cookie that they carry
 abbrev pub post_of : Option Cookie → OwnOpt → Option ℕ → ServerPost
 post_of cookie opt n = record { cookie = option_map (λ c. cookie_rule c n) cookie; opt = opt; limit = n }
 
@@ -62,7 +62,7 @@ abbrev pub taken_behind : {R : Type 0} → ServerPost → Taken R → Taken (Ser
 taken_behind post (Own item) = Own (rewritten (server_by post) item)
 taken_behind post (Passed rule message) = Passed (record { inner = rule; post = post }) message
 
--- each datagram that is sent has at most so many octets
+-- each datagram that is sent has at most that many octets
 abbrev pub IsWithin : ℕ → Output → Type 0
 IsWithin n (Datagram client o) = length o ≤ n
 IsWithin n (Frame client o) = Unit {0}
