@@ -2,7 +2,8 @@
 
 use dns_outside::{Clock, HostClock};
 use std::alloc::Global;
-use std::sync::atomic::{AtomicU64, Ordering};
+use std::io::ErrorKind;
+use std::sync::atomic::{AtomicBool, AtomicU64, Ordering};
 use std::time::Duration;
 use std::{io, rt};
 
@@ -31,20 +32,31 @@ fn goes_on<C: Clock>(clock: &mut C) -> bool {
     false
 }
 
-/// A clock that gives both times as they were set last.
+/// A clock that gives both times as they were set last, or neither.
 #[derive(Clone, Copy)]
 struct SetClock<'a> {
     millis: &'a AtomicU64,
     secs: &'a AtomicU64,
+    fails: &'a AtomicBool,
+}
+
+impl SetClock<'_> {
+    /// What a reading gives, unless the clock fails.
+    fn reading(&self, time: Duration) -> io::Result<Duration> {
+        match self.fails.load(Ordering::SeqCst) {
+            true => Err(io::Error::from(ErrorKind::Other)),
+            false => Ok(time),
+        }
+    }
 }
 
 impl rt::Clock for SetClock<'_> {
     fn monotonic(&self) -> io::Result<Duration> {
-        Ok(Duration::from_millis(self.millis.load(Ordering::SeqCst)))
+        self.reading(Duration::from_millis(self.millis.load(Ordering::SeqCst)))
     }
 
     fn since_1970(&self) -> io::Result<Duration> {
-        Ok(Duration::from_secs(self.secs.load(Ordering::SeqCst)))
+        self.reading(Duration::from_secs(self.secs.load(Ordering::SeqCst)))
     }
 }
 
@@ -65,15 +77,37 @@ fn reads<'a>(
 fn steps_alone() -> bool {
     let millis = AtomicU64::new(0);
     let secs = AtomicU64::new(0);
+    let fails = AtomicBool::new(false);
     let times = SetClock {
         millis: &millis,
         secs: &secs,
+        fails: &fails,
     };
     let mut clock = HostClock::new(times);
     reads(&mut clock, times, 5_007, 1_700_000_000, 1_700_000_000)
         && reads(&mut clock, times, 5_007, 1_700_000_030, 1_700_000_000)
         && reads(&mut clock, times, 5_008, 1_700_000_030, 1_700_000_030)
         && reads(&mut clock, times, 5_009, 1_699_913_600, 1_699_913_600)
+}
+
+/// Whether a clock that can't be read gives its last reading again, and 0 if there was none.
+fn stands_still() -> bool {
+    let millis = AtomicU64::new(5_007);
+    let secs = AtomicU64::new(1_700_000_000);
+    let fails = AtomicBool::new(true);
+    let times = SetClock {
+        millis: &millis,
+        secs: &secs,
+        fails: &fails,
+    };
+    let mut clock = HostClock::new(times);
+    let first = clock.now();
+    fails.store(false, Ordering::SeqCst);
+    let second = clock.now();
+    fails.store(true, Ordering::SeqCst);
+    millis.store(6_000, Ordering::SeqCst);
+    secs.store(1_700_000_001, Ordering::SeqCst);
+    first == (0, 0) && second == (5_007, 1_700_000_000) && clock.now() == second
 }
 
 /// The machine's clock does as is wanted, and else what it doesn't is named.
@@ -89,6 +123,9 @@ fn each_clock_holds(rt: HostRuntime) -> Result<(), &'static str> {
     }
     if !steps_alone() {
         return Err("a_step_of_the_time_of_day_moves_no_moment");
+    }
+    if !stands_still() {
+        return Err("a_clock_that_cannot_be_read_stands");
     }
     Ok(())
 }

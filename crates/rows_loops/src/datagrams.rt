@@ -169,6 +169,23 @@ const CASES: &[(&'static str, Trial<SockCase<'static>>)] = &[
             ..ONE
         }),
     ),
+    // A second datagram has the moment of a reading after the first one's, and so have the Turns after it.
+    (
+        "each_datagram_has_a_reading_of_its_own",
+        Trial::Refused(SockCase {
+            times: READINGS,
+            stands: true,
+            events: &[
+                (b'D', 0, 1),
+                (b'T', 0, 1),
+                (b'D', 1, 2),
+                (b'T', 0, 2),
+                (b'T', 1, 2),
+                (b'T', 1, 3),
+            ],
+            ..TWO
+        }),
+    ),
     // Each receive and each send that answered Again is followed by a wait, until the reply is sent.
     (
         "a_wait_follows_each_again",
