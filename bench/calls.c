@@ -86,7 +86,7 @@ static uint64_t siphash24(const uint8_t key[16], const uint8_t *octets, size_t l
     return v0 ^ v1 ^ v2 ^ v3;
 }
 
-/* The last of so many hashes, before each of which the hash before it is written over the first eight octets. */
+/* The last of that many hashes, before each of which the hash before it is written over the first eight octets. */
 static uint64_t hash_chain(uint8_t *octets, size_t len, uint64_t count)
 {
     uint64_t hash = 0;
@@ -163,7 +163,7 @@ enum { GOOD, SHORT_INPUT, BAD_FORM, SHORT_BUFFER, NO_MEMORY };
 
 static uint16_t two_at(const uint8_t *p) { return (uint16_t)(p[0] << 8 | p[1]); }
 
-/* The place behind the name at *at: pointers are followed, each to an earlier place and at most 255 of them, and the
+/* The place after the name at *at: pointers are followed, each to an earlier place and at most 255 of them, and the
  * labels have at most 255 octets with the root's. */
 static int skip_name(const uint8_t *message, size_t size, bool pointers, size_t *at)
 {
@@ -430,7 +430,7 @@ static int readings(uint8_t *message, size_t size, uint64_t count, uint64_t *sum
 
 /* ---- building ---- */
 
-/* A message behind two octets for its length, in one buffer that grows. */
+/* A message after two octets for its length, in one buffer that grows. */
 struct message {
     uint8_t *octets;
     size_t len, room, limit;
@@ -479,7 +479,7 @@ static const struct record ADDITIONAL[] = {
     {NAME("\004mail" COM), 1, 1, 3600, {{192, 0, 2, 25}}},
 };
 
-/* Makes room for so many octets within the limit, and gives the place where they go. */
+/* Makes room for that many octets within the limit, and gives the place where they go. */
 static int reserve(struct message *m, size_t size, uint8_t **at)
 {
     if (m->len - 2 + size > m->limit)

@@ -1,6 +1,6 @@
 /* The client of bench/idle, on 127.0.0.1. It ends by itself: after 120 s at most, or when its standard input ends.
  *
- * Usage: idle hold PORT COUNT    so many connections, each of which asks once and reads the answer; prints how many of them were
+ * Usage: idle hold PORT COUNT    that many connections, each of which asks once and reads the answer; prints how many of them were
  *                                answered, and holds them until its standard input ends, at which all are closed at once
  *        idle full PORT          one connection that asks without reading until there is no room for half a second; prints how many
  *                                queries it wrote, and holds it until its standard input ends */
@@ -17,7 +17,7 @@
 #include <sys/socket.h>
 #include <unistd.h>
 
-/* A query for the root's address, RD set, behind its length. */
+/* A query for the root's address, RD set, after its length. */
 static const uint8_t QUERY[19] = {0, 17, 18, 52, 1, 0, 0, 1, 0, 0, 0, 0, 0, 0, 0, 0, 1, 0, 1};
 enum { MOST = 60000, BESIDE = 16, SMALL = 4096, MAX_WAIT_MS = 5000, FULL = 500 };
 
@@ -26,7 +26,7 @@ static void stop(const char *what) {
     exit(1);
 }
 
-/* As many descriptors as are wanted, where that is allowed. */
+/* As many descriptors as are wanted, if that is allowed. */
 static void allow(unsigned count) {
     struct rlimit limit;
     if (getrlimit(RLIMIT_NOFILE, &limit) < 0) stop("getrlimit");
@@ -47,7 +47,7 @@ static int joined(int port, int room) {
     return s;
 }
 
-/* Whether the length of an answer comes, and as many octets behind it. */
+/* Whether the length of an answer comes, and as many octets after it. */
 static int is_answered(int s) {
     uint8_t buffer[65537];
     size_t have = 0;

@@ -5,11 +5,11 @@
  *        serve echo-tcp            a thread for each connection, which sends back each message, with its length, by a write of its own;
  *                                  prints its port
  *        serve echo-pieces         the same, but for whole pieces: what one read gave goes back by one write
- *        serve udp PORT WINDOW MILLIS             so many queries in flight, from one socket
- *        serve paced PORT RATE MILLIS             so many queries a second, each sent at its time
- *        serve tcp PORT CONNECTIONS WINDOW MILLIS so many queries in flight on each connection
+ *        serve udp PORT WINDOW MILLIS             that many queries in flight, from one socket
+ *        serve paced PORT RATE MILLIS             that many queries a second, each sent at its time
+ *        serve tcp PORT CONNECTIONS WINDOW MILLIS that many queries in flight on each connection
  *
- * The client prints one line of numbers: replies, lost queries, nanoseconds; and behind these, for `paced`, the latencies in
+ * The client prints one line of numbers: replies, lost queries, nanoseconds; and after these, for `paced`, the latencies in
  * nanoseconds below which half, 99 % and all of the queries were answered. A reply is what has the identifier of a query in flight. */
 #include <arpa/inet.h>
 #include <errno.h>
@@ -28,7 +28,7 @@
 #include <time.h>
 #include <unistd.h>
 
-/* A query for the root's address, RD set, behind its length; the identifier is written over octets 2 and 3. */
+/* A query for the root's address, RD set, after its length; the identifier is written over octets 2 and 3. */
 static const uint8_t QUERY[19] = {0, 17, 0, 0, 1, 0, 0, 1, 0, 0, 0, 0, 0, 0, 0, 0, 1, 0, 1};
 enum { LENGTH = 17, PIECE = 65536, MOST_WINDOW = 256, MOST_CONNECTIONS = 64, MOST_PACED = 1000000 };
 
@@ -150,7 +150,7 @@ static void send_query(int s, unsigned id) {
     if (send(s, query, LENGTH, 0) != LENGTH && errno != EAGAIN && errno != ENOBUFS) stop("send");
 }
 
-/* Each identifier below the window is that of one query in flight, and is sent again once its reply is there. Where nothing comes
+/* Each identifier below the window is that of one query in flight, and is sent again once its reply is there. If nothing comes
  * for 100 ms, the queries in flight are lost, and all are sent anew under identifiers of another row. The client never sleeps, so no
  * server has to wake it. */
 static void udp(int port, unsigned window, uint64_t millis) {
@@ -184,7 +184,7 @@ static int by_size(const void *a, const void *b) {
     return x < y ? -1 : x > y;
 }
 
-/* Takes the replies that are there. Query i has the identifier i modulo 65,536, and counts as lost where its reply comes later than
+/* Takes the replies that are there. Query i has the identifier i modulo 65,536, and counts as lost if its reply comes later than
  * 65,535 others were sent. */
 static void take_paced(int s, uint64_t count) {
     uint8_t buffer[4096];

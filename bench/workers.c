@@ -1,10 +1,10 @@
 /* The peers of bench/workers: a plain server of several threads that sends back what comes, and the client that drives it and the DNS
  * servers alike, all on 127.0.0.1. Each ends by itself: the server after 300 s at most, the client after the time that it is given, or
- * ten seconds later where the machine gives it no time.
+ * ten seconds later if the machine gives it no time.
  *
  * Usage: workers echo THREADS                           a loop of recvfrom and sendto for each thread, on a socket of its own; all share
  *                                                       one port by SO_REUSEPORT; prints the port
- *        workers ask PORT THREADS SOCKETS WINDOW MILLIS so many queries in flight from each of so many sockets, each at a port of its
+ *        workers ask PORT THREADS SOCKETS WINDOW MILLIS that many queries in flight from each of that many sockets, each at a port of its
  *                                                       own; the threads share the sockets out
  *
  * The client prints one line of numbers: replies, lost queries, nanoseconds. So that one processor drives three servers, it does little
@@ -102,7 +102,7 @@ static void echo(unsigned threads) {
 
 /* ---- The client ---- */
 
-/* A socket of the client: how many replies came by it so far, how many of its queries wait for one, and since when none came; 0 where one
+/* A socket of the client: how many replies came by it so far, how many of its queries wait for one, and since when none came; 0 if one
  * came at the last look. */
 struct asker {
     int socket;
@@ -141,7 +141,7 @@ static uint32_t replies_of(int s) {
     return info[SK_MEMINFO_DROPS];
 }
 
-/* Looks how many replies came, and sends the next queries once all did. Where nothing comes for 100 ms, those that are left are lost. The
+/* Looks how many replies came, and sends the next queries once all did. If nothing comes for 100 ms, those that are left are lost. The
  * client never sleeps, so no server has to wake it. */
 static void turn(struct part *p, struct asker *a) {
     uint32_t came = replies_of(a->socket) - a->came;
@@ -160,7 +160,7 @@ static void turn(struct part *p, struct asker *a) {
     }
 }
 
-/* Fails where the filter let something through. */
+/* Fails if the filter let something through. */
 static void check(int s) {
     uint8_t octet;
     if (recv(s, &octet, 1, MSG_DONTWAIT) >= 0) {

@@ -3,9 +3,9 @@
  * seconds.
  *
  * Usage: zoned echo                                         a loop of recvfrom and sendto; prints the port
- *        zoned udp PORT NAMES SOCKETS WINDOW MILLIS OPT     so many queries in flight from each of so many sockets
- *        zoned tcp PORT NAMES SOCKETS WINDOW MILLIS OPT     so many queries in flight in each of so many connections
- *        zoned steady PORT NAMES RATE MILLIS OPT            so many queries a second over UDP, each asked again after a second without reply
+ *        zoned udp PORT NAMES SOCKETS WINDOW MILLIS OPT     that many queries in flight from each of that many sockets
+ *        zoned tcp PORT NAMES SOCKETS WINDOW MILLIS OPT     that many queries in flight in each of that many connections
+ *        zoned steady PORT NAMES RATE MILLIS OPT            that many queries a second over UDP, each asked again after a second without reply
  *
  * NAMES is how many names nK.example. there are; of four queries three are for one of these, and one is for a name that isn't there. NAMES
  * 0 is for the plain server: then no reply is looked at. With OPT 1 a query has an OPT record of 1232 octets.
@@ -248,7 +248,7 @@ static void ask(bool tcp, int port, unsigned sockets, unsigned window, uint64_t 
     printf("%" PRIu64 " %" PRIu64 " %" PRIu64 "\n", replies, lost, time - start);
 }
 
-/* ---- So many a second ---- */
+/* ---- At a rate ---- */
 
 static uint64_t asked_at[IDS];
 static bool again[IDS];

@@ -95,7 +95,7 @@ enum nutscythe_request {
     NUTSCYTHE_FAILED = 2          /* it ended with an error */
 };
 
-/* What is heard of a request beside its reply. */
+/* What is heard of a request besides its reply. */
 enum nutscythe_heard {
     NUTSCYTHE_HEAR_NOTHING = 0,
     NUTSCYTHE_HEAR_BEGIN = 1,   /* a transaction begins */

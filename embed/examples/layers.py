@@ -69,7 +69,7 @@ def serve(message):
 
 
 def main():
-    """Serves so many queries, or until none came for 10 s."""
+    """Serves that many queries, or until none came for 10 s."""
     layers = Layers(sys.argv[1])
     link = socket.socket(socket.AF_INET, socket.SOCK_DGRAM)
     link.bind(("127.0.0.1", int(sys.argv[2])))

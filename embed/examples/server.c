@@ -1,6 +1,6 @@
 /* A server of one thread over UDP and TCP by poll: the layers, the connections and the book of the library, which has as many slots
  * as there are CLIENTS, and a service of its own that answers A queries with 192.0.2.1.
- * usage: server PORT MESSAGES (it ends after so many messages, or after 10 s without one) */
+ * usage: server PORT MESSAGES (it ends after that many messages, or after 10 s without one) */
 #include <nutscythe.h>
 
 #include <arpa/inet.h>

@@ -6,7 +6,7 @@ Each FOLDER has scripts NAME.script, and beside each NAME.stdout or NAME.script.
 so, they are those of `nutscythe steps`, in which clients hear of configurations by `look` alone. The library decides, builds and
 rewrites replies, frames, queues, keeps transactions and slots, and tells the time. Each built reply is also made as octets and
 rewritten, and compared. Here stands when a client begins and ends, and in services.py what a script's service gives. Left out, and
-counted: scripts that are refused. It ends with 1 where something differs.
+counted: scripts that are refused. It ends with 1 if something differs.
 """
 import collections
 import ctypes as c

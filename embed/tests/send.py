@@ -1,10 +1,10 @@
 """Sends hostile messages to the server in C: half of them as datagrams, and the others as frames over connections.
 
-usage: send.py PORT FILE (FILE: messages, each behind its length in two octets)
+usage: send.py PORT FILE (FILE: messages, each after its length in two octets)
 
 Each datagram of 12 octets or more must get one answer with its identifier. A connection carries many frames, and a frame shorter
 than a header at its end, while there are such frames: the server closes it. What comes back over connections is counted; the server
-drops what its queue and its response budget have no room for. It ends with 1 where a datagram's answer lacks.
+drops what its queue and its response budget have no room for. It ends with 1 if a datagram's answer is missing.
 """
 import contextlib
 import select
@@ -54,7 +54,7 @@ def datagrams(address, found):
 
 
 def framed(found):
-    """Messages, each behind its length."""
+    """Messages, each after its length."""
     return b"".join(len(message).to_bytes(2, "big") + message for message in found)
 
 

@@ -1,5 +1,5 @@
 /* Wrong calls, and hostile messages in blocks of exact size: the statuses, and what stays as it was.
- * usage: wrong CALLS [FILE] (so many wrong calls or some more; FILE: messages, each behind its length in two octets) */
+ * usage: wrong CALLS [FILE] (that many wrong calls or some more; FILE: messages, each after its length in two octets) */
 #include <nutscythe.h>
 
 #undef NDEBUG
