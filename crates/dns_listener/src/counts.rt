@@ -35,7 +35,23 @@ fn push_count(
     writeln!(text, "replies {name} {udp} over UDP, {tcp} over TCP")
 }
 
-/// Appends a line for each response code that is told.
+/// How many replies over a transport had a response code without a line of its own.
+fn others(counts: &ReplyCounts, is_stream: bool) -> u64 {
+    let codes = [
+        Rcode::YXDOMAIN,
+        Rcode::YXRRSET,
+        Rcode::NXRRSET,
+        Rcode::NOTZONE,
+        Rcode::DSOTYPENI,
+    ];
+    let mut number = 0u64;
+    for code in codes {
+        number = number.saturating_add(counts.number(is_stream, code));
+    }
+    number
+}
+
+/// Appends a line for each response code that is counted, by the four bits of the header, and one for the others.
 fn push_replies(text: &mut String, counts: &ReplyCounts) -> Result<(), AllocError> {
     let codes = [
         ("NOERROR", Rcode::NOERROR),
@@ -49,7 +65,9 @@ fn push_replies(text: &mut String, counts: &ReplyCounts) -> Result<(), AllocErro
     for (name, code) in codes {
         push_count(text, counts, name, code)?;
     }
-    Ok(())
+    let udp = others(counts, false);
+    let tcp = others(counts, true);
+    writeln!(text, "replies other {udp} over UDP, {tcp} over TCP")
 }
 
 /// Logs what became of a question for a transfer.
