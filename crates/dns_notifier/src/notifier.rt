@@ -47,7 +47,7 @@ impl Notifier {
     /// Whether the announcement of a zone to an address waits.
     fn is_waiting(&self, apex: &Name, to: SocketAddr) -> bool {
         for other in self.waiting.iter() {
-            if same_socket_addr(other.to, to) && other.apex.name_eq(&apex.for_ref()) {
+            if same_socket_addr(other.to, to) && other.apex == *apex {
                 return true;
             }
         }

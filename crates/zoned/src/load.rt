@@ -42,7 +42,7 @@ fn stands_among(entries: &[ZoneEntry], entry: &ZoneEntry) -> bool
     ensures { result ≡ list_any (is_entry_named entry.now.name.name) entries.now }
 {
     for other in entries {
-        if other.name.name.name_eq(&entry.name.name.for_ref()) {
+        if other.name.name == entry.name.name {
             return true;
         }
     }
