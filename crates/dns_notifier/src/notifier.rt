@@ -159,7 +159,7 @@ impl Notifier {
         Ok(())
     }
 
-    /// Takes the answers that came, sends again what wasn't answered, and sends the announcements that wait, as many as may be on
+    /// Takes the answers that came, and sends again what wasn't answered. Sends the announcements that wait, as many as may be on
     /// their way at once.
     pub fn look<R: Net + RandomSource + Log>(
         &mut self,
