@@ -3,7 +3,7 @@
 //! - `Listener` has the sockets of an address: one for connections, and one for datagrams for each worker. `bind_all` opens
 //!   those of a configuration, and `say_listeners` writes their addresses.
 //! - `Offer` is what is served: the zones, by settings, with the target of NOTIFY and the identifier of the server.
-//! - `Running` is a listener that serves an offer in a thread. `start` gives the listener back where it can't be started.
+//! - `Running` is a listener that serves an offer in a thread. `start` gives the listener back if it can't be started.
 //!   `has_ended` says whether one has ended by itself, and `close_all` shuts them down. `take_back` gives the listeners back,
 //!   whose sockets stay open for what is served next.
 //! - `Counters` are what is counted at all listeners: `numbers` gives the counts of a moment, and `report` says them in lines.

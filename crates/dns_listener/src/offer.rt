@@ -13,7 +13,8 @@ use dns_secondary_service::Withholding;
 use std::alloc::Global;
 use std::sync::Arc;
 
-/// What answers over zones: zones that were read, behind zones that have no data, behind those that lost their data since.
+/// What answers over zones: the authority over zones that were read, in a layer for zones without data, in one more for zones
+/// that lost their data since.
 pub type ZoneService = Withholding<Arc<Withholding<Authority>>>;
 
 /// What is served: the zones, by settings, with the target of NOTIFY, the identifier of the server, and what counts the replies.

@@ -115,7 +115,7 @@ impl<R: Clock + Threads + Wait + Copy + Send + Sync + 'static> Running<R> {
         }
     }
 
-    /// Starts a thread at a post, whose book has another seat. Where there is none, the post serves nothing, as its book is shut down.
+    /// Starts a thread at a post, whose book has another seat. If there is none, the post serves nothing, as its book is shut down.
     fn serving<N: Notifiable + Send + Sync + 'static>(
         rt: R,
         alloc: Global,

@@ -27,7 +27,7 @@ pub(crate) struct Known {
 }
 
 impl Known {
-    /// Whether it is that of a zone.
+    /// Whether it is the serial of a zone.
     fn is_of(&self, apex: &Name) -> bool
         ensures { result ≡ is_of apex.now self.now }
     {
@@ -35,7 +35,7 @@ impl Known {
     }
 }
 
-/// Puts the serial of a zone, if it has one, behind others.
+/// Puts the serial of a zone, if it has one, after others.
 fn put_serial(
     alloc: Global,
     known: &mut Vec<Known>,
@@ -72,7 +72,7 @@ pub(crate) fn known_serials(
     Ok(known)
 }
 
-/// Whether a zone stands at a place.
+/// Whether the serial at a place is a zone's.
 fn stands_at(known: &[Known], place: usize, apex: &Name) -> bool {
     match known.get(place) {
         Some(one) => one.is_of(apex),
@@ -80,14 +80,14 @@ fn stands_at(known: &[Known], place: usize, apex: &Name) -> bool {
     }
 }
 
-/// Where the first of a zone stands among some.
+/// The place of the first serial of a zone in a list.
 fn first_of(known: &[Known], apex: &Name) -> Option<usize>
     ensures { result ≡ position (is_of apex.now) known.now }
 {
     known.iter().position(|one| one.is_of(apex))
 }
 
-/// Where a zone stands among some, of which one is looked at first.
+/// The place of a zone's serial in a list. One place is tried first.
 pub(crate) fn place_of(known: &[Known], first: usize, apex: &Name) -> Option<usize>
     ensures { IfNone result (position (is_of apex.now) known.now ≡ None) }
 {
@@ -97,7 +97,7 @@ pub(crate) fn place_of(known: &[Known], first: usize, apex: &Name) -> Option<usi
     first_of(known, apex)
 }
 
-/// Whether what stands at a place has a serial.
+/// Whether this serial is at a place, if there is one.
 pub(crate) fn has_serial(known: &[Known], place: Option<usize>, serial: u32) -> bool {
     match place {
         Some(place) => match known.get(place) {

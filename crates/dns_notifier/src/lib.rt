@@ -10,13 +10,13 @@
 //!
 //! A NOTIFY is sent five times at most, 15 s after each other: sooner and no more often than RFC 1996, section 3.6, has as defaults.
 //! Each has a socket and an identifier of its own. One without a socket counts as lost, and is sent again. At most 20 are on their
-//! way at once, and the others wait in order. What is told, answered and given up is logged.
+//! way at once, and the others wait in order. What is sent, answered and given up is logged.
 //!
 //! Moments are milliseconds since any moment that the owner picks.
 //!
 //! # What is proved
 //!
-//! - Behind `tell_changes` the serials of all zones that are served are known as announced.
+//! - After `tell_changes` the serials of all zones that are served are known as announced.
 //! - Each function is safe and returns. What an answer is, and when it is sent again, is proved of `Asking` of dns_forward.
 //!
 //! # What a body could still get away with

@@ -1,4 +1,4 @@
-//! Who is told of new serials.
+//! The serials that were announced.
 
 ghost use Rattle.std.specs.Prelude.{◌≡◌, OnOk};
 ghost use Rattle.dns_notifier.specs.Announced.{known_serials};
@@ -19,7 +19,7 @@ use std::random::RandomSource;
 /// How many NOTIFYs are on their way at once.
 const MOST_PENDING: usize = 20;
 
-/// A zone of whose new serial an address is to be told.
+/// A zone, and an address to which the NOTIFY of its new serial is to be sent.
 #[derive(Drop)]
 struct Announcement {
     apex: Name,
@@ -54,10 +54,10 @@ impl Notifier {
         false
     }
 
-    /// Puts the announcements of a zone behind those that wait, unless they wait already.
+    /// Puts the announcements of a zone after those that wait, unless they wait already.
     fn announce(&mut self, alloc: Global, entry: &ZoneEntry) -> Result<(), OutOfMemory> {
         let apex = &entry.name.name;
-        // Nothing waits of a zone that is told of for the first time.
+        // For a zone that is announced for the first time nothing waits.
         let is_first = self.known.is_empty();
         for endpoint in entry.notify.iter() {
             let to = endpoint.address;

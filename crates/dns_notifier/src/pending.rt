@@ -26,7 +26,7 @@ const ANSWER_SIZE: usize = 1_232;
 pub(crate) struct PendingNotify {
     pub(crate) apex: Name,
     pub(crate) to: SocketAddr,
-    /// None where none could be opened yet.
+    /// None if none could be opened yet.
     socket: Option<UdpSocket>,
     asking: Asking,
 }
@@ -82,7 +82,7 @@ fn asking_of(alloc: Global, apex: &Name, id: u16, now: u64) -> anyhow::Result<As
 }
 
 impl PendingNotify {
-    /// Tells an address of a zone.
+    /// Sends an address the NOTIFY of a zone.
     pub(crate) fn begin<R: Net + RandomSource + Log>(
         rt: &R,
         alloc: Global,
@@ -143,7 +143,7 @@ impl PendingNotify {
         self.code_of(alloc, now, &buffer[..count])
     }
 
-    /// Looks whether it was answered, and sends it again where that is due.
+    /// Looks whether it was answered, and sends it again if that is due.
     pub(crate) fn look<R: Net + Log>(
         &mut self,
         rt: &R,

@@ -116,7 +116,7 @@ impl Asked {
         }
     }
 
-    /// Notes the end, where a transfer began.
+    /// Notes the end, if a transfer began.
     fn end<R: Wait>(self, rt: &R, news: TransferNews) {
         let Asked {
             apex,
@@ -137,7 +137,7 @@ fn note_end<R: Wait>(rt: &R, asked: Option<Asked>, news: TransferNews) {
     }
 }
 
-/// How a transfer ends that is let go with at most so many items left. The last item only says that it has ended.
+/// How a transfer ends that is let go with at most that many items left. The last item only says that it has ended.
 fn news_at(left: Option<usize>) -> TransferNews {
     match left {
         Some(0) | Some(1) => TransferNews::Ended,

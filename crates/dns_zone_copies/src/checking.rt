@@ -40,7 +40,7 @@ impl Checking {
         })
     }
 
-    /// Gives it up: it ends behind the read that it is in.
+    /// Gives it up: it ends after the read that it is in.
     pub(crate) fn give_up(&self) {
         self.stop.store(true, Ordering::SeqCst);
     }

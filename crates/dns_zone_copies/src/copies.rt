@@ -32,11 +32,11 @@ pub struct Copies {
     target: Arc<CopiesTarget>,
     /// Checks of zones that are no longer configured.
     leaving: Vec<Checking>,
-    /// Where the secondary stands whose check is begun next, if it is due.
+    /// The place of the secondary whose check is begun next, if it is due.
     next: usize,
 }
 
-/// Where the first secondary of an entry stands among these.
+/// The place of the first secondary of an entry in a list.
 fn first_of(secondaries: &[Secondary], entry: &ZoneEntry) -> Option<usize>
     ensures { result ≡ position (is_of entry.now.primary entry.now.name.name) secondaries.now }
 {
@@ -75,7 +75,7 @@ fn first_taken_out(secondaries: &mut Vec<Secondary>, entry: &ZoneEntry) -> Optio
     }
 }
 
-/// Takes the secondary of an entry out of these. It is looked for at the end first.
+/// Removes the secondary of an entry from a list. It is looked for at the end first.
 fn taken_out(secondaries: &mut Vec<Secondary>, entry: &ZoneEntry) -> Option<Secondary>
     ensures found { IfSome result (λ s. is_of entry.now.primary entry.now.name.name s ≡ true) }
     ensures none { IfNone result (position (is_of entry.now.primary entry.now.name.name) secondaries.old.items ≡ None) }
@@ -109,7 +109,7 @@ fn continued(
     }
 }
 
-/// The secondary of an entry, if that has a primary: one of these, where it was there before.
+/// The secondary of an entry, if that has a primary: one of these, if it was there before.
 fn secondary_of<R: Files + Clock>(
     rt: &R,
     alloc: Global,
@@ -130,7 +130,7 @@ fn secondary_of<R: Files + Clock>(
     Ok(Some(secondary))
 }
 
-/// The secondaries of a configuration with these summaries, those of before taken out of these.
+/// The secondaries of a configuration with these summaries: those from before that are still in it, and new ones.
 fn follow_all<R: Files + Clock>(
     rt: &R,
     alloc: Global,
@@ -197,7 +197,7 @@ fn begin_checks<R: Net + Log + Threads>(
     (count, left)
 }
 
-/// Gives up the checks of zones that are no longer configured, and puts them behind those that leave.
+/// Gives up the checks of zones that are no longer configured, and puts them after those that leave.
 fn leave(leaving: &mut Vec<Checking>, before: Vec<Secondary>) -> Result<(), OutOfMemory> {
     for secondary in before {
         if let Some(checking) = secondary.into_checking() {
@@ -234,7 +234,7 @@ impl Copies {
     }
 
     /// Goes on to the zones of a configuration with these summaries. A zone that was there before with its primary keeps what is
-    /// known of its copy, where that is served.
+    /// known of its copy, if that is served.
     pub fn follow<R: Files + Clock>(
         &mut self,
         rt: &R,
@@ -340,7 +340,7 @@ impl Copies {
     }
 }
 
-/// Puts a check behind others whose end is waited for; where there is no memory, its end is waited for at once.
+/// Puts a check after others whose end is waited for; if there is no memory, its end is waited for at once.
 fn join_next<R: Threads>(rt: &R, checks: &mut Vec<Checking>, checking: Checking) {
     if let Err(refused) = checks.push(checking) {
         let _ = refused.value.join(rt);

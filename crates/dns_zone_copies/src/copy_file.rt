@@ -34,7 +34,7 @@ fn age<R: Files + Clock>(rt: &R, file: &str) -> io::Result<u64> {
     Ok(time.elapsed(rt)?.as_secs())
 }
 
-/// When a file's copy was current: now, where the file doesn't say so or says a later moment.
+/// When a file's copy was current: now, if the file doesn't say so or says a later moment.
 pub(crate) fn current<R: Files + Clock>(rt: &R, file: &str, now: u64) -> u64
     ensures { result ≤ now }
 {

@@ -12,7 +12,7 @@
 //! NOTIFY -> target -> look: a check is due
 //! ```
 //!
-//! A check is a connection to the primary in a thread of its own. It asks for the SOA record first, and for the zone where that
+//! A check is a connection to the primary in a thread of its own. It asks for the SOA record first, and for the zone if that
 //! is newer (RFC 1982). What comes is judged as a zone file is. The file of a copy is replaced by a rename. At most 10 checks go
 //! on at once, and the others wait in order. One that takes 10 minutes is given up.
 //!
@@ -23,7 +23,7 @@
 //!
 //! # What is proved
 //!
-//! - The copy of a zone is told from others by its name and by the address and port of its primary (`is_of`).
+//! - The copy of a zone is distinguished from others by its name and by the address and port of its primary (`is_of`).
 //! - What comes of a check is offered to the copy: a zone that came replaces it only if its serial is newer and its file is
 //!   written; else what is held stays (`take`).
 //! - The copy that is held is the one that is served (`follow`). It stays with what is known of it.

@@ -8,6 +8,6 @@ use Rattle.dns_generation.specs.declared.generation.ZoneSummary.{ZoneSummary}
 abbrev pub is_entry_named : List (List ℕ) → ZoneEntry → Bool
 is_entry_named name entry = same_name entry.name.name name
 
--- a zone without data, as a secondary's before its first transfer, and behind EXPIRE (RFC 1034, section 4.3.5)
+-- a zone without data, as a secondary's before its first transfer, and after EXPIRE (RFC 1034, section 4.3.5)
 abbrev pub without_data : ZoneSummary
 without_data = record { timers = None; records = 0 }

@@ -75,7 +75,7 @@ impl Judged {
         })
     }
 
-    /// These without the data of zones whose secondary has no copy; nothing where there are none.
+    /// These without the data of zones whose secondary has no copy; nothing if there are none.
     fn without_lost(
         &self,
         alloc: Global,
@@ -115,7 +115,7 @@ impl ServedConfig {
     ) -> anyhow::Result<ServedConfig> {
         let settings = config.settings(rt.alloc())?;
         let zones = Judged::load(rt, &config, secondaries)?;
-        Ok(Served {
+        Ok(ServedConfig {
             number,
             config,
             settings,
@@ -132,7 +132,7 @@ impl ServedConfig {
     ) -> anyhow::Result<ServedConfig> {
         let config = Arc::new(rt.alloc(), load_config(rt, path)?)?;
         refuse_twice(&config)?;
-        Served::of(rt, number, config, secondaries)
+        ServedConfig::of(rt, number, config, secondaries)
     }
 
     /// What follows if a copy came or went: the zones of the configuration are read and judged again.
@@ -145,18 +145,18 @@ impl ServedConfig {
         ServedConfig::of(rt, self.number.saturating_add(1), config, secondaries)
     }
 
-    /// What follows where zones can't be read again: these without the data of zones whose secondary has no copy; nothing where
+    /// What follows where zones can't be read again: these without the data of zones whose secondary has no copy; nothing if
     /// there are none.
     pub(crate) fn without_lost(
         &self,
         alloc: Global,
         secondaries: &[Secondary],
-    ) -> anyhow::Result<Option<Served>> {
+    ) -> anyhow::Result<Option<ServedConfig>> {
         let zones = match self.zones.without_lost(alloc, &self.config, secondaries)? {
             Some(zones) => zones,
             None => return Ok(None),
         };
-        Ok(Some(Served {
+        Ok(Some(ServedConfig {
             number: self.number.saturating_add(1),
             config: Arc::try_clone(&self.config)?,
             settings: self.settings.try_clone(alloc)?,

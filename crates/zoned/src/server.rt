@@ -37,7 +37,7 @@ const PAUSE_MILLIS: u64 = 1_000;
 /// The number of the moment at which the server began, in seconds: 136 years.
 const BEGAN: u64 = 4_294_967_296;
 
-/// How long is waited before zones are read again that couldn't be read, in seconds.
+/// How long it waits before zones are read again that couldn't be read, in seconds.
 const AGAIN_SECONDS: u64 = 10;
 
 /// How far the generation that is served is.
@@ -56,7 +56,7 @@ enum Phase {
 struct Server {
     path: String,
     since: Instant,
-    served: Served,
+    served: ServedConfig,
     /// Whether a copy came or went since the zones were read.
     is_stale: bool,
     /// When they are to be read again then.
@@ -200,7 +200,7 @@ impl Server {
         Ok(())
     }
 
-    /// Goes on without the data of zones that lost their copy, where there are any.
+    /// Goes on without the data of zones that lost their copy, if there are any.
     fn withhold_lost(&mut self, rt: &HostRuntime) -> anyhow::Result<()> {
         let secondaries = self.copies.as_slice();
         if let Some(served) = self.served.without_lost(rt.alloc(), secondaries)? {
@@ -321,7 +321,7 @@ impl Server {
         }
     }
 
-    /// Reads and judges the zones again, if a copy came or went. Where that fails, the zones that lost their copy are without
+    /// Reads and judges the zones again, if a copy came or went. If that fails, the zones that lost their copy are without
     /// data, and it is tried again later.
     fn renew(&mut self, rt: &HostRuntime, now: u64) -> anyhow::Result<()> {
         if !self.is_stale || now < self.again {
@@ -337,7 +337,7 @@ impl Server {
         }
     }
 
-    /// Looks at the copies and at those who are told of a serial. Where another copy came, or one went, the zones are read and
+    /// Looks at the copies and at the announcements of serials. If another copy came, or one went, the zones are read and
     /// judged again.
     fn look<R: Net + Files + Clock + RandomSource + Threads + Log>(
         &mut self,
