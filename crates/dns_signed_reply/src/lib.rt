@@ -1,0 +1,45 @@
+//! The replies of a name server to queries with DO, from a zone that is signed with NSEC (RFC 3225; RFC 4035, section 3.1).
+//!
+//! - `secure_reply` gives the reply of a `SignedZone` to a query and its question. Without DO it is that of dns_name_server.
+//! - `asks_do` says whether a query has an OPT record with DO.
+//!
+//! With DO each RRset of the answer and authority sections goes with its RRSIGs, and what the reply says is absent goes with the
+//! NSEC records that prove it, each once. A referral has the DS records of the delegation point, or the NSEC record that
+//! says there are none. RRSIGs of the additional section are given where the message stays within a size that the caller says.
+//!
+//! ```text
+//! reply without DO  answer            authority                          additional
+//! with DO           answer, RRSIGs    authority, DS, NSECs, RRSIGs       additional, RRSIGs where there is room
+//! ```
+//!
+//! Nothing here makes or verifies a signature: zones are signed elsewhere.
+//!
+//! # What is proved
+//!
+//! - What is built is the message of `secure_reply`, section for section.
+//! - Each section is that of the reply without DO, and behind it RRSIG, NSEC and DS records alone (`signing_adds_only`).
+//!   Without DO nothing is added (`nothing_without_do`).
+//! - Each RRset of the answer and authority sections has its RRSIGs (`signing_adds_all`).
+//! - A validator accepts what the reply says of each name that it is asked for, the names of a chain of aliases too
+//!   (`replies_are_accepted`). The definition of a validator is that of dns_denial. The NSECs are what the NSEC records of
+//!   the reply say (`chosen_are_given`).
+//! - AD and CD are clear (`security_bits_are_clear`).
+//!
+//! # What a body could still get away with
+//!
+//! How often the zone is walked. By reading the code it is once for each RRset, and twice for each name that is denied.
+#![tactic(auto)]
+
+mod authority;
+mod denials;
+mod laws;
+mod plain;
+mod records;
+mod reply;
+mod rrsigs;
+
+pub use laws::{
+    chosen_are_given, nothing_without_do, replies_are_accepted, security_bits_are_clear,
+    signing_adds_all, signing_adds_only,
+};
+pub use reply::{asks_do, secure_reply};
