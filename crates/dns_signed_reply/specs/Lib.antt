@@ -6,3 +6,4 @@ pub use Rattle.dns_signed_zone.specs.SignedZones
 pub use Rattle.dns_opt.specs.OptRecords
 pub mod SignedReplies
 pub mod ReplyLaws
+pub mod PlainReplies

@@ -30,13 +30,15 @@
 //! How often the zone is walked. By reading the code it is once for each RRset, and twice for each name that is denied.
 #![tactic(auto)]
 
-mod authority;
+mod chain;
 mod denials;
 mod laws;
+mod names;
 mod plain;
 mod records;
 mod reply;
 mod rrsigs;
+mod step;
 
 pub use laws::{
     chosen_are_given, nothing_without_do, replies_are_accepted, security_bits_are_clear,

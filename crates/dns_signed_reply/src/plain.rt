@@ -1,51 +1,119 @@
-//! A reply whose records are read back.
+//! A reply as it is made: its records, not written yet.
 
-ghost use Rattle.std.specs.Prelude.{◌≡◌, List, map, IfOk};
-ghost use Rattle.std.specs.List.{AllByRecursion, AllZip};
-ghost use Rattle.dns_base.specs.Records.{record_of};
-ghost use Rattle.dns_base.specs.TypedData.{IsReadAs};
-ghost use Rattle.dns_message.specs.declared.record.Record.{Record as RecordState};
-ghost use Rattle.dns_zone.specs.Owned.{AreLawful, HasTypedData};
+ghost use Rattle.std.specs.Prelude.{◌≡◌, IfOk};
+ghost use Rattle.dns_zone.specs.Places.{at_places};
+ghost use Rattle.dns_zone.specs.ZoneReply.{authoritative, denied, referral};
+ghost use Rattle.dns_zone_tree.specs.Kinds.{kind_places};
+ghost use Rattle.dns_name_server.specs.Steps.{own_reply};
+ghost use Rattle.dns_signed_reply.specs.PlainReplies.{behind, said};
 
-use dns_base::{AdditionalBuilder, ParseError, Record, RecordIter, typed_records_read_back};
+use crate::records::{at_places, extended, of_node};
+use dns_base::{Rcode, Record, Rtype};
+use dns_name::OutOfMemory;
+use dns_zone_tree::{Kinds, ZoneTree};
 use std::alloc::Global;
 
-/// The records of the sections of a reply.
+/// The response code, whether the answer is authoritative, and the records of three sections.
 #[derive(Drop)]
 pub(crate) struct PlainReply {
+    pub(crate) aa: bool,
+    pub(crate) rcode: Rcode,
     pub(crate) answers: Vec<Record>,
     pub(crate) authority: Vec<Record>,
     pub(crate) additional: Vec<Record>,
 }
 
-/// The records of a section.
-fn records_in(alloc: Global, section: RecordIter<'_>) -> Result<Vec<Record>, ParseError>
-    ensures value { (rs : List RecordState) → AllByRecursion HasTypedData rs → AllZip IsReadAs (map record_of rs) section.entry → IfOk result (λ v. v.items ≡ rs) }
-    ensures lawful { IfOk result (λ v. AreLawful v.items) }
+/// These answers alone.
+pub(crate) fn authoritative(alloc: Global, records: Vec<Record>) -> PlainReply
+    ensures { said result ≡ authoritative records.items }
 {
-    let mut records = Vec::new(alloc);
-    'each: for item in section {
-        let record = item?.to_record(alloc)?;
-        records.push(record)?;
+    let authority = Vec::new(alloc);
+    let additional = Vec::new(alloc);
+    PlainReply {
+        aa: true,
+        rcode: Rcode::NOERROR,
+        answers: records,
+        authority,
+        additional,
     }
-    Ok(records)
 }
 
-impl PlainReply {
-    /// The records of a reply as it was built.
-    pub(crate) fn read(alloc: Global, built: &AdditionalBuilder) -> Result<PlainReply, ParseError>
-        ensures answers { (rs : List RecordState) → AllByRecursion HasTypedData rs → built.now.message.answers ≡ map record_of rs → IfOk result (λ p. p.answers.items ≡ rs) }
-        ensures authority { (rs : List RecordState) → AllByRecursion HasTypedData rs → built.now.message.authority ≡ map record_of rs → IfOk result (λ p. p.authority.items ≡ rs) }
-        ensures additional { (rs : List RecordState) → AllByRecursion HasTypedData rs → built.now.message.additional ≡ map record_of rs → IfOk result (λ p. p.additional.items ≡ rs) }
-        ensures lawful { IfOk result (λ p. AreLawful p.answers.items × AreLawful p.authority.items × AreLawful p.additional.items) }
-    {
-        typed_records_read_back();
-        let message = built.as_message();
-        let (_, answers, authority, additional) = message.sections()?;
-        Ok(PlainReply {
-            answers: records_in(alloc, answers)?,
-            authority: records_in(alloc, authority)?,
-            additional: records_in(alloc, additional)?,
-        })
+/// The SOA record, with a response code.
+pub(crate) fn denied(
+    zone: &ZoneTree,
+    alloc: Global,
+    rcode: Rcode,
+) -> Result<PlainReply, OutOfMemory>
+    ensures { IfOk result (λ p. said p ≡ denied zone.now rcode) }
+{
+    let negative = zone.negative();
+    let copy = negative.try_clone(alloc)?;
+    let mut authority = Vec::new(alloc);
+    authority.push(copy)?;
+    let answers = Vec::new(alloc);
+    let additional = Vec::new(alloc);
+    Ok(PlainReply {
+        aa: true,
+        rcode,
+        answers,
+        authority,
+        additional,
+    })
+}
+
+/// The records of a name that exists, or that there are none of the type.
+pub(crate) fn own_reply(
+    zone: &ZoneTree,
+    alloc: Global,
+    records: Vec<Record>,
+) -> Result<PlainReply, OutOfMemory>
+    ensures { IfOk result (λ p. said p ≡ own_reply zone.now records.items) }
+{
+    if records.as_slice().is_empty() {
+        return denied(zone, alloc, Rcode::NOERROR);
     }
+    Ok(authoritative(alloc, records))
+}
+
+/// A referral to the name servers of a cut, with their addresses.
+pub(crate) fn referral(
+    zone: &ZoneTree,
+    alloc: Global,
+    cut: &Kinds,
+) -> Result<PlainReply, OutOfMemory>
+    ensures { IfOk result (λ p. said p ≡ referral zone.now (at_places zone.now.records (kind_places 2 cut.now))) }
+{
+    let authority = of_node(zone, alloc, cut, Rtype::NS.to_int())?;
+    let places = zone.glue(alloc, cut)?;
+    let additional = at_places(alloc, zone.records(), places.as_slice())?;
+    let answers = Vec::new(alloc);
+    Ok(PlainReply {
+        aa: false,
+        rcode: Rcode::NOERROR,
+        answers,
+        authority,
+        additional,
+    })
+}
+
+/// The reply with aliases in front of its answers.
+pub(crate) fn behind(given: Vec<Record>, end: PlainReply) -> Result<PlainReply, OutOfMemory>
+    ensures { IfOk result (λ p. said p ≡ behind given.items (said end)) }
+{
+    let PlainReply {
+        aa,
+        rcode,
+        answers,
+        authority,
+        additional,
+    } = end;
+    let aa = !given.as_slice().is_empty() || aa;
+    let answers = extended(given, answers)?;
+    Ok(PlainReply {
+        aa,
+        rcode,
+        answers,
+        authority,
+        additional,
+    })
 }

@@ -1,22 +1,38 @@
 //! Records of a zone by owner and type.
 
-ghost use Rattle.std.specs.Prelude.{◌≡◌, ◌++◌, ◌∷◌, [], map, IfOk, OnOk};
+ghost use Rattle.std.specs.Prelude.{◌≡◌, ◌++◌, ◌∷◌, [], ℕ, map, IfOk, OnOk, IsTrue};
 ghost use Rattle.std.specs.List.{list_any};
-ghost use Rattle.dns_zone.specs.Owned.{AreLawful};
+ghost use Rattle.dns_route.specs.Routes.{ends_name};
+ghost use Rattle.dns_zone.specs.Owned.{asked_records};
 ghost use Rattle.dns_zone.specs.Places.{at_places};
-ghost use Rattle.dns_zone_tree.specs.Kinds.{places_of};
+ghost use Rattle.dns_zone_tree.specs.Kinds.{kind_places, places_of};
+ghost use Rattle.dns_zone_tree.specs.Regions.{asked_region};
+ghost use Rattle.dns_zone_tree.specs.Walks.{ReachesNone};
 ghost use Rattle.dns_zone_tree.specs.Wildcards.{given_as, had_records};
 ghost use Rattle.dns_denial.specs.Signed.{is_beside};
-ghost use Rattle.dns_signed_reply.specs.SignedReplies.{owned_records, reached_records};
+ghost use Rattle.dns_signed_reply.specs.SignedReplies.{if_within, owned_records, reached_records};
 
 use dns_base::{NameRef, Record};
-use dns_name::{Name, OutOfMemory};
-use dns_signed_zone::SignedZone;
-use dns_zone_tree::{Kinds, TypedPlace, Walk, ZoneTree};
+use dns_name::OutOfMemory;
+use dns_route::matches_are_suffixes;
+use dns_zone_tree::{Kinds, TypedPlace, Walk, ZoneTree, record_at};
 use std::alloc::Global;
 
 /// The type whose walk passes a delegation point (RFC 4035, section 3.1.4.1).
 const DS: u16 = 43;
+
+/// Records, and others behind them.
+pub(crate) fn extended(
+    records: Vec<Record>,
+    more: Vec<Record>,
+) -> Result<Vec<Record>, OutOfMemory>
+    ensures { IfOk result (λ v. v.items ≡ records.items ++ more.items) }
+{
+    let mut records = records;
+    let mut more = more;
+    records.append(&mut more)?;
+    Ok(records)
+}
 
 /// Adds the record at a place, where it is of a type.
 fn add_kind(
@@ -26,16 +42,16 @@ fn add_kind(
     rtype: u16,
     into: &mut Vec<Record>,
 ) -> Result<(), OutOfMemory>
-    requires lawful { AreLawful records.now }
-    requires before { AreLawful into.old.items }
-    ensures value { OnOk result (into.new.items ≡ into.old.items ++ at_places records.now (places_of rtype (kind.now ∷ []))) }
-    ensures lawful { AreLawful into.new.items }
+    ensures { OnOk result (into.new.items ≡ into.old.items ++ at_places records.now (places_of rtype (kind.now ∷ []))) }
 {
-    if let Some(record) = kind.record(records, rtype) {
-        let copy = record.try_clone(alloc)?;
-        into.push(copy)?;
+    match kind.record(records, rtype) {
+        Some(record) => {
+            let copy = record.try_clone(alloc)?;
+            into.push(copy)?;
+            Ok(())
+        }
+        None => Ok(()),
     }
-    Ok(())
 }
 
 /// The records of a type at places.
@@ -45,9 +61,7 @@ fn at_kinds(
     kinds: &[TypedPlace],
     rtype: u16,
 ) -> Result<Vec<Record>, OutOfMemory>
-    requires { AreLawful records.now }
-    ensures value { IfOk result (λ v. v.items ≡ at_places records.now (places_of rtype kinds.now)) }
-    ensures lawful { IfOk result (λ v. AreLawful v.items) }
+    ensures { IfOk result (λ v. v.items ≡ at_places records.now (places_of rtype kinds.now)) }
 {
     let mut found = Vec::new(alloc);
     'each: for kind in kinds {
@@ -56,78 +70,208 @@ fn at_kinds(
     Ok(found)
 }
 
-/// Records as another name's.
-fn renamed(
+/// The records of a type at the places of a name.
+pub(crate) fn of_node(
+    zone: &ZoneTree,
     alloc: Global,
-    records: Vec<Record>,
-    name: &NameRef<'_>,
+    kinds: &Kinds,
+    rtype: u16,
 ) -> Result<Vec<Record>, OutOfMemory>
-    requires { AreLawful records.items }
-    ensures value { IfOk result (λ v. v.items ≡ map (given_as name.now) records.items) }
-    ensures lawful { IfOk result (λ v. AreLawful v.items) }
+    ensures { IfOk result (λ v. v.items ≡ at_places zone.now.records (kind_places rtype kinds.now)) }
 {
-    let mut records = records;
-    'each: for record in records.iter_mut() {
-        record.owner = name.to_owned(alloc)?;
-    }
-    Ok(records)
+    at_kinds(alloc, zone.records(), kinds.as_slice(), rtype)
 }
 
-/// The records of a type of a wildcard, as another name's.
-fn of_wildcard(
+/// A record as another name's.
+fn copied_as(
+    alloc: Global,
+    resource: &Record,
+    name: &NameRef<'_>,
+) -> Result<Record, OutOfMemory>
+    ensures { IfOk result (λ r. r ≡ given_as name.now resource.now) }
+{
+    let mut copy = resource.try_clone(alloc)?;
+    copy.owner = name.to_owned(alloc)?;
+    Ok(copy)
+}
+
+/// Adds the record at a place as another name's, where it is of a type.
+fn add_kind_as(
+    alloc: Global,
+    records: &[Record],
+    kind: &TypedPlace,
+    rtype: u16,
+    name: &NameRef<'_>,
+    into: &mut Vec<Record>,
+) -> Result<(), OutOfMemory>
+    ensures { OnOk result (into.new.items ≡ into.old.items ++ map (given_as name.now) (at_places records.now (places_of rtype (kind.now ∷ [])))) }
+{
+    match kind.record(records, rtype) {
+        Some(record) => {
+            let copy = copied_as(alloc, record, name)?;
+            into.push(copy)?;
+            Ok(())
+        }
+        None => Ok(()),
+    }
+}
+
+/// The records of a type at places as another name's.
+fn at_kinds_as(
+    alloc: Global,
+    records: &[Record],
+    kinds: &[TypedPlace],
+    rtype: u16,
+    name: &NameRef<'_>,
+) -> Result<Vec<Record>, OutOfMemory>
+    ensures { IfOk result (λ v. v.items ≡ map (given_as name.now) (at_places records.now (places_of rtype kinds.now))) }
+{
+    let mut found = Vec::new(alloc);
+    'each: for kind in kinds {
+        add_kind_as(alloc, records, kind, rtype, name, &mut found)?;
+    }
+    Ok(found)
+}
+
+/// The records of a type at the places of a wildcard, as another name's.
+pub(crate) fn of_wildcard(
+    zone: &ZoneTree,
+    alloc: Global,
+    kinds: &Kinds,
+    rtype: u16,
+    name: &NameRef<'_>,
+) -> Result<Vec<Record>, OutOfMemory>
+    ensures { IfOk result (λ v. v.items ≡ map (given_as name.now) (at_places zone.now.records (kind_places rtype kinds.now))) }
+{
+    at_kinds_as(alloc, zone.records(), kinds.as_slice(), rtype, name)
+}
+
+/// Adds the record at a place, where there is one.
+fn add_place(
+    alloc: Global,
+    records: &[Record],
+    place: usize,
+    into: &mut Vec<Record>,
+) -> Result<(), OutOfMemory>
+    ensures { OnOk result (into.new.items ≡ into.old.items ++ at_places records.now (place ∷ [])) }
+{
+    match record_at(records, place) {
+        Some(record) => {
+            let copy = record.try_clone(alloc)?;
+            into.push(copy)?;
+            Ok(())
+        }
+        None => Ok(()),
+    }
+}
+
+/// The records at places.
+pub(crate) fn at_places(
+    alloc: Global,
+    records: &[Record],
+    places: &[usize],
+) -> Result<Vec<Record>, OutOfMemory>
+    ensures { IfOk result (λ v. v.items ≡ at_places records.now places.now) }
+{
+    let mut found = Vec::new(alloc);
+    'each: for place in places {
+        add_place(alloc, records, *place, &mut found)?;
+    }
+    Ok(found)
+}
+
+/// Whether a name is at or below the apex of a zone.
+pub(crate) fn is_in_zone(zone: &ZoneTree, name: &NameRef<'_>) -> bool
+    ensures { result ≡ ends_name name.now zone.now.apex }
+{
+    matches_are_suffixes();
+    name.ends_with(&zone.apex().for_ref())
+}
+
+/// The records of a type that a name in the zone owns, where the zone has authority over it: those at a delegation point too.
+fn owned_within(
+    zone: &ZoneTree,
+    alloc: Global,
+    name: &NameRef<'_>,
+    rtype: u16,
+) -> Result<Vec<Record>, OutOfMemory>
+    requires { IsTrue (ends_name name.now zone.now.apex) }
+    ensures { IfOk result (λ v. v.items ≡ if_within (asked_region zone.now 43 name.now) (asked_records zone.now name.now rtype)) }
+{
+    let found = zone.walk(alloc, name, DS)?;
+    match found {
+        Walk::Node(kinds) => of_node(zone, alloc, kinds, rtype),
+        Walk::Missing(_) => Ok(Vec::new(alloc)),
+        Walk::Cut(_) => Ok(Vec::new(alloc)),
+        Walk::Dname(_) => Ok(Vec::new(alloc)),
+    }
+}
+
+/// The records of a type that a name owns, where the zone has authority over it.
+pub(crate) fn owned_records(
+    zone: &ZoneTree,
+    alloc: Global,
+    name: &NameRef<'_>,
+    rtype: u16,
+) -> Result<Vec<Record>, OutOfMemory>
+    ensures { IfOk result (λ v. v.items ≡ owned_records zone.now name.now rtype) }
+{
+    if is_in_zone(zone, name) {
+        return owned_within(zone, alloc, name, rtype);
+    }
+    Ok(Vec::new(alloc))
+}
+
+/// The records of a type of the wildcard that stands for a name, as the name's.
+fn of_missing(
     zone: &ZoneTree,
     alloc: Global,
     name: &NameRef<'_>,
     skipped: usize,
     rtype: u16,
-) -> Result<Vec<Record>, OutOfMemory> {
-    match zone.wildcard(alloc, &name.behind(skipped))? {
-        Some(kinds) => {
-            let found = at_kinds(alloc, zone.records(), kinds.as_slice(), rtype)?;
-            renamed(alloc, found, name)
-        }
+) -> Result<Vec<Record>, OutOfMemory>
+    ensures { (t : ℕ) → ReachesNone zone.now t name.now skipped → IfOk result (λ v. v.items ≡ had_records zone.now name.now rtype) }
+{
+    let found = zone.wildcard(alloc, &name.behind(skipped))?;
+    match found {
+        Some(kinds) => of_wildcard(zone, alloc, kinds, rtype, name),
         None => Ok(Vec::new(alloc)),
     }
 }
 
-/// The records of a type that a name owns, where the zone has authority over it: those at a delegation point too.
-pub(crate) fn owned_records(
-    zone: &SignedZone,
+/// The records of a type that a name in the zone has, where the zone has authority over it.
+fn had_within(
+    zone: &ZoneTree,
     alloc: Global,
     name: &NameRef<'_>,
     rtype: u16,
 ) -> Result<Vec<Record>, OutOfMemory>
-    ensures value { IfOk result (λ v. v.items ≡ owned_records zone.now.zone name.now rtype) }
-    ensures lawful { IfOk result (λ v. AreLawful v.items) }
+    requires { IsTrue (ends_name name.now zone.now.apex) }
+    ensures { IfOk result (λ v. v.items ≡ if_within (asked_region zone.now 43 name.now) (had_records zone.now name.now rtype)) }
 {
-    if !zone.is_in_zone(name) {
-        return Ok(Vec::new(alloc));
-    }
-    match zone.zone().walk(alloc, name, DS)? {
-        Walk::Node(kinds) => at_kinds(alloc, zone.zone().records(), kinds.as_slice(), rtype),
-        _ => Ok(Vec::new(alloc)),
+    let found = zone.walk(alloc, name, DS)?;
+    match found {
+        Walk::Node(kinds) => of_node(zone, alloc, kinds, rtype),
+        Walk::Missing(skipped) => of_missing(zone, alloc, name, skipped, rtype),
+        Walk::Cut(_) => Ok(Vec::new(alloc)),
+        Walk::Dname(_) => Ok(Vec::new(alloc)),
     }
 }
 
 /// The records of a type that a name has, its own or those of the wildcard that stands for it, where the zone has authority
 /// over it.
 pub(crate) fn had_records(
-    zone: &SignedZone,
+    zone: &ZoneTree,
     alloc: Global,
     name: &NameRef<'_>,
     rtype: u16,
 ) -> Result<Vec<Record>, OutOfMemory>
-    ensures value { IfOk result (λ v. v.items ≡ reached_records zone.now.zone name.now (had_records zone.now.zone name.now rtype)) }
-    ensures lawful { IfOk result (λ v. AreLawful v.items) }
+    ensures { IfOk result (λ v. v.items ≡ reached_records zone.now name.now (had_records zone.now name.now rtype)) }
 {
-    if !zone.is_in_zone(name) {
-        return Ok(Vec::new(alloc));
+    if is_in_zone(zone, name) {
+        return had_within(zone, alloc, name, rtype);
     }
-    match zone.zone().walk(alloc, name, DS)? {
-        Walk::Node(kinds) => at_kinds(alloc, zone.zone().records(), kinds.as_slice(), rtype),
-        Walk::Missing(skipped) => of_wildcard(zone.zone(), alloc, name, skipped, rtype),
-        _ => Ok(Vec::new(alloc)),
-    }
+    Ok(Vec::new(alloc))
 }
 
 /// Whether two records are of one RRset.
