@@ -43,7 +43,7 @@ not_behind false h = refl
 
 module _ (ns : List NsecState) (sorted : AreSorted ns) (name : List (List ℕ)) where
   -- the last NSEC that is not behind a name is the last of those that are not
-  last_is : (n : NsecState) (more : List NsecState) → filter (is_up_to name) ns ≡ n ∷ more → IsLast ns name (last_or n more)
+  pub last_is : (n : NsecState) (more : List NsecState) → filter (is_up_to name) ns ≡ n ∷ more → IsLast ns name (last_or n more)
   last_is n more e =
       let l = last_or n more in
       let fs = n ∷ more in

@@ -56,7 +56,7 @@ says_from (q ∷ rs) (m ∷ ns) a r (suc k, l, e) =
     record { one = i.one; there = (suc i.there.0, omega (arith, i.there.1), i.there.2); says = i.says }
 
 -- no two NSECs of a chain have one owner
-sole : (ns : List NsecState) → AreSorted ns → (m n : NsecState) → Contains ns m → Contains ns n → same_name m.owner n.owner ≡ true → m ≡ n
+pub sole : (ns : List NsecState) → AreSorted ns → (m n : NsecState) → Contains ns m → Contains ns n → same_name m.owner n.owner ≡ true → m ≡ n
 sole ns s m n (i, k, e) (j, l, f) h = by_order (cases_order i j)
   where
     apart : (a b : NsecState) → is_before a.owner b.owner ≡ true → same_name a.owner b.owner ≡ true → ⊥

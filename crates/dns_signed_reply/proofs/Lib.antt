@@ -3,3 +3,10 @@ pub mod AddLaws
 pub mod AllLaws
 pub mod AcceptLaws
 pub mod GivenLaws
+pub mod LoopLaws
+pub mod NodeLaws
+pub mod StepLaws
+pub mod RrsigLaws
+pub mod NearLaws
+pub mod LawfulLaws
+pub mod RoomLaws

@@ -134,7 +134,7 @@ fn at_wildcard(
 
 /// That a name doesn't exist.
 fn no_such_name(zone: &ZoneTree, alloc: Global) -> Result<Step, OutOfMemory>
-    ensures { (go : List (List ℕ) → ZoneReply) → IfOk result (λ s. step_reply go s ≡ denied zone.now 3) }
+    ensures { IfOk result (λ s. (go : List (List ℕ) → ZoneReply) → step_reply go s ≡ denied zone.now 3) }
 {
     let reply = denied(zone, alloc, Rcode::NXDOMAIN)?;
     Ok(Step::End(reply))
@@ -275,7 +275,7 @@ fn at_dname(
 
 /// A referral to a cut.
 fn at_cut(zone: &ZoneTree, alloc: Global, kinds: &Kinds) -> Result<Step, OutOfMemory>
-    ensures { (go : List (List ℕ) → ZoneReply) → IfOk result (λ s. step_reply go s ≡ referral zone.now (at_places zone.now.records (kind_places 2 kinds.now))) }
+    ensures { IfOk result (λ s. (go : List (List ℕ) → ZoneReply) → step_reply go s ≡ referral zone.now (at_places zone.now.records (kind_places 2 kinds.now))) }
 {
     let reply = referral(zone, alloc, kinds)?;
     Ok(Step::End(reply))

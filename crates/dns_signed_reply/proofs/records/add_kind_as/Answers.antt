@@ -1,0 +1,11 @@
+use Rattle.std.proofs.Common.{map, ap}
+use Rattle.dns_zone_tree.specs.Wildcards.{given_as}
+use Rattle.dns_signed_reply.proofs.LoopLaws.{put_none, put_one}
+use Rattle.dns_signed_reply.proofs.records.add_kind_as.Goals as goal
+
+pub returns-in_ok-push-in-Some : goal.returns-in_ok-push-in-Some
+returns-in_ok-push-in-Some c =
+    put_one _ (given_as c.args.name.now c.in-Some.record.now) c.in_ok-copy-in-Some.copy c.args.into.now.items c.push.new.self.items (ap (map (given_as c.args.name.now)) c.in-Some.ensures.value) c.in_ok-copy-in-Some.ensures c.in_ok-push-in-Some.ensures.items
+
+pub returns-in-None : goal.returns-in-None
+returns-in-None c = put_none _ c.args.into.now.items (ap (map (given_as c.args.name.now)) c.in-None.ensures.value)

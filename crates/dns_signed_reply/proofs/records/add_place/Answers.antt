@@ -1,0 +1,10 @@
+use Rattle.std.proofs.Common.{[], ap, sym}
+use Rattle.std.specs.List.{cons_option}
+use Rattle.dns_signed_reply.proofs.LoopLaws.{put_none, put_one}
+use Rattle.dns_signed_reply.proofs.records.add_place.Goals as goal
+
+pub returns-in_ok-push-in-Some : goal.returns-in_ok-push-in-Some
+returns-in_ok-push-in-Some c = put_one _ c.in-Some.record.now c.in_ok-copy-in-Some.copy c.args.into.now.items c.push.new.self.items (ap (λ o. cons_option o []) (sym c.in-Some.ensures)) c.in_ok-copy-in-Some.ensures.value c.in_ok-push-in-Some.ensures.items
+
+pub returns-in-None : goal.returns-in-None
+returns-in-None c = put_none _ c.args.into.now.items (ap (λ o. cons_option o []) (sym c.in-None.ensures))

@@ -1,0 +1,18 @@
+use Rattle.std.proofs.Common.{◌≡◌, List, map, ap, ◌∙◌}
+use Rattle.dns_message.specs.declared.record.Record.{Record}
+use Rattle.dns_zone.specs.Places.{at_places}
+use Rattle.dns_zone_tree.specs.Kinds.{kind_places, places_of}
+use Rattle.dns_zone_tree.specs.Wildcards.{given_as}
+use Rattle.dns_zone_tree.specs.declared.kinds.TypedPlace.{TypedPlace}
+use Rattle.dns_zone_tree.proofs.KeptLaws.{if_ok}
+use Rattle.dns_signed_reply.proofs.records.of_wildcard.Goals as goal
+
+pub returns : goal.returns
+returns c =
+    let z = c.args.zone.now in
+    let t = c.args.rtype in
+    let n = c.args.name.now in
+    if_ok (λ v. v.items ≡ map (given_as n) (at_places c.records.result.now (places_of t c.as_slice.result.now))) (λ v. v.items ≡ map (given_as n) (at_places z.records (kind_places t c.args.kinds.now))) c.at_kinds_as.result c.at_kinds_as.ensures
+    (λ v e. e
+    ∙ (ap (λ (rs : List Record). map (given_as n) (at_places rs (places_of t c.as_slice.result.now))) c.records.ensures.value
+    ∙ ap (λ (ks : List TypedPlace). map (given_as n) (at_places z.records (places_of t ks))) c.as_slice.ensures))
