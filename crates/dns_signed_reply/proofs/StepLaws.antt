@@ -54,12 +54,17 @@ own_is_denied z rs b e h = sym (ap (λ (x : Bool). if x then authoritative rs el
 pub own_is_given : (z : ZoneState) (rs : List Record) (b : Bool) → b ≡ (length rs == 0) → b ≡ false → authoritative rs ≡ own_reply z rs
 own_is_given z rs b e h = sym (ap (λ (x : Bool). if x then authoritative rs else denied z 0) (sym (some_is rs b e) ∙ ap not h))
 
-pub behind_is : (given answers more : List Record) (aa was : Bool) (p : PlainReply) → answers ≡ given ++ more → more ≡ p.answers.items → aa ≡ (are_some given || was) → was ≡ p.aa → record (said p) { aa = aa; answers = answers } ≡ behind given (said p)
-behind_is given answers more aa was p e m a w =
+-- an answer behind aliases is authoritative
+pub aa_none : (rs : List Record) (b aa : Bool) → b ≡ (length rs == 0) → b ≡ true → aa ≡ (are_some rs || aa)
+aa_none rs b aa e h = ap (λ (x : Bool). x || aa) (ap not (sym h) ∙ some_is rs b e)
+
+pub aa_some : (rs : List Record) (b aa : Bool) → b ≡ (length rs == 0) → b ≡ false → true ≡ (are_some rs || aa)
+aa_some rs b aa e h = ap (λ (x : Bool). x || aa) (ap not (sym h) ∙ some_is rs b e)
+
+pub behind_is : (given answers : List Record) (aa : Bool) (p : PlainReply) → answers ≡ given ++ p.answers.items → aa ≡ (are_some given || p.aa) → record (said p) { aa = aa; answers = answers } ≡ behind given (said p)
+behind_is given answers aa p e a =
     let f : Bool → List Record → ZoneReply = λ b l. record (said p) { aa = b; answers = l } in
-    let g : answers ≡ given ++ p.answers.items = e ∙ ap (λ (l : List Record). given ++ l) m in
-    let h : aa ≡ (are_some given || p.aa) = a ∙ ap (λ (b : Bool). are_some given || b) w in
-    λ i. f (h i) (g i)
+    λ i. f (a i) (e i)
 
 -- ---- records in front
 

@@ -1,9 +1,10 @@
 //! A reply as it is made: its records, not written yet.
 
-ghost use Rattle.std.specs.Prelude.{◌≡◌, IfOk};
+ghost use Rattle.std.specs.Prelude.{◌≡◌, ◌||◌, IfOk};
 ghost use Rattle.dns_zone.specs.Places.{at_places};
 ghost use Rattle.dns_zone.specs.ZoneReply.{authoritative, denied, referral};
 ghost use Rattle.dns_zone_tree.specs.Kinds.{kind_places};
+ghost use Rattle.dns_zone_tree.specs.Wildcards.{are_some};
 ghost use Rattle.dns_name_server.specs.Steps.{own_reply};
 ghost use Rattle.dns_signed_reply.specs.PlainReplies.{behind, said};
 
@@ -96,6 +97,16 @@ pub(crate) fn referral(
     })
 }
 
+/// Whether a reply with aliases in front of its answers is authoritative.
+fn is_authoritative(given: &[Record], aa: bool) -> bool
+    ensures { result ≡ (are_some given.now || aa) }
+{
+    if given.is_empty() {
+        return aa;
+    }
+    true
+}
+
 /// The reply with aliases in front of its answers.
 pub(crate) fn behind(given: Vec<Record>, end: PlainReply) -> Result<PlainReply, OutOfMemory>
     ensures { IfOk result (λ p. said p ≡ behind given.items (said end)) }
@@ -107,7 +118,7 @@ pub(crate) fn behind(given: Vec<Record>, end: PlainReply) -> Result<PlainReply, 
         authority,
         additional,
     } = end;
-    let aa = !given.as_slice().is_empty() || aa;
+    let aa = is_authoritative(given.as_slice(), aa);
     let answers = extended(given, answers)?;
     Ok(PlainReply {
         aa,

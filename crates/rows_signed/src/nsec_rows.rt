@@ -46,7 +46,8 @@ fn made(row: &mut Row<'_>, apex: Name) {
     }
 }
 
-/// The reply of a signed zone to a query, with room for additional signatures: an apex, records, the query, and octets.
+/// The replies of a signed zone: an apex, records, the number of queries, and for each the octets that there are room for, and
+/// the query.
 pub(crate) fn replied(row: &mut Row<'_>) {
     match Name::from_octets(row.vector()) {
         Ok(apex) => reply_made(row, apex),
@@ -67,15 +68,16 @@ fn reply_made(row: &mut Row<'_>, apex: Name) {
 fn reply_said(row: &mut Row<'_>, zone: &SignedZone) {
     let queries: u16 = row.number();
     for _ in 0..queries {
+        let room = row.number();
         match Message::from_octets(row.vector()) {
-            Ok(query) => one_replied(row, zone, &query),
+            Ok(query) => one_replied(row, zone, &query, room),
             Err(_) => row.fail(RowError::OutOfForm),
         }
     }
 }
 
 /// Says the reply to a query.
-fn one_replied(row: &mut Row<'_>, zone: &SignedZone, query: &Message) {
+fn one_replied(row: &mut Row<'_>, zone: &SignedZone, query: &Message, room: u16) {
     let alloc = row.alloc();
     let Some(question) = query.first_question() else {
         row.say("no question");
@@ -89,7 +91,7 @@ fn one_replied(row: &mut Row<'_>, zone: &SignedZone, query: &Message) {
         row.say("outside");
         return;
     }
-    match secure_reply(zone, alloc, query, &question, 65535) {
+    match secure_reply(zone, alloc, query, &question, room) {
         Ok(reply) => row.hexadecimal(reply.as_slice()),
         Err(error) => row.debug(&error),
     }

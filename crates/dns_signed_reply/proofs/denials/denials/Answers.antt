@@ -16,7 +16,7 @@ returns-then-follows c =
     let t = c.to_int-rtype.result in
     let n = c.for_ref.result in
     let mid = c.deny_name.new.into.items in
-    let f : mid ≡ nsec_records_of s.zone [] (flat_map (nearest s.nsecs) (denied s.zone t n)) = c.in_ok-deny_name.ensures ∙ ap (λ (l : List Record). nsec_records_of s.zone l (flat_map (nearest s.nsecs) (denied s.zone t n))) c.new-found.ensures in
+    let f : mid ≡ nsec_records_of s.zone [] (flat_map (nearest s.nsecs) (denied s.zone t n)) = c.in_ok-deny_name.ensures ∙ ap (λ (l : List Record). nsec_records_of s.zone l (flat_map (nearest s.nsecs) (denied s.zone t n))) c.new-found.ensures.items in
     denials_all s q c.args.answers.now t (c.to_int-rtype.ensures.value ∙ c.qtype.ensures) n (c.for_ref.ensures.value ∙ (c.in_ok-name.ensures ∙ c.qname.ensures)) mid c.deny_targets.new.into.items f c.in_ok-deny_targets.ensures (sym c.follows.ensures ∙ c.if-follows.true)
 
 pub returns : goal.returns
@@ -26,5 +26,5 @@ returns c =
     let t = c.to_int-rtype.result in
     let n = c.for_ref.result in
     let mid = c.deny_name.new.into.items in
-    let f : mid ≡ nsec_records_of s.zone [] (flat_map (nearest s.nsecs) (denied s.zone t n)) = c.in_ok-deny_name.ensures ∙ ap (λ (l : List Record). nsec_records_of s.zone l (flat_map (nearest s.nsecs) (denied s.zone t n))) c.new-found.ensures in
+    let f : mid ≡ nsec_records_of s.zone [] (flat_map (nearest s.nsecs) (denied s.zone t n)) = c.in_ok-deny_name.ensures ∙ ap (λ (l : List Record). nsec_records_of s.zone l (flat_map (nearest s.nsecs) (denied s.zone t n))) c.new-found.ensures.items in
     denials_alone s q c.args.answers.now t (c.to_int-rtype.ensures.value ∙ c.qtype.ensures) n (c.for_ref.ensures.value ∙ (c.in_ok-name.ensures ∙ c.qname.ensures)) mid f (sym c.follows.ensures ∙ c.if-follows.false)

@@ -14,4 +14,4 @@ returns c =
     let x : c.in_ok-additional.additional.items ≡ glue z servers = c.in_ok-additional.ensures
     ∙ (ap (λ (rs : List Record). at_places rs c.as_slice.result.now) c.records.ensures.value
     ∙ (ap (λ (is : List ℕ). at_places z.records is) c.as_slice.ensures.value ∙ c.in_ok-places.ensures)) in
-    referral_is z servers c.new-answers.result.items c.in_ok-authority.authority.items c.in_ok-additional.additional.items n x c.new-answers.ensures
+    referral_is z servers c.new-answers.result.items c.in_ok-authority.authority.items c.in_ok-additional.additional.items n x c.new-answers.ensures.items

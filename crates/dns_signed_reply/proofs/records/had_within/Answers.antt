@@ -27,7 +27,7 @@ returns-in-Missing c =
     if_ok (λ v. v.items ≡ had_records z n t) (λ v. v.items ≡ if_within (asked_region z 43 n) (had_records z n t)) c.of_missing.result (c.of_missing.ensures 43 r) (λ v e. e ∙ missing_had z n 43 _ r t)
 
 pub returns-in-Cut : goal.returns-in-Cut
-returns-in-Cut c = c.new.ensures ∙ cut_none c.args.zone.now c.args.name.now 43 _ _ (subst (EndsAt c.args.zone.now 43 c.args.name.now) c.in-Cut.is c.in_ok-found.ensures)
+returns-in-Cut c = c.new.ensures.items ∙ cut_none c.args.zone.now c.args.name.now 43 _ _ (subst (EndsAt c.args.zone.now 43 c.args.name.now) c.in-Cut.is c.in_ok-found.ensures)
 
 pub returns-in-Dname : goal.returns-in-Dname
-returns-in-Dname c = let r = subst (EndsAt c.args.zone.now 43 c.args.name.now) c.in-Dname.is c.in_ok-found.ensures in c.new-in-Dname.ensures ∙ dname_none c.args.zone.now c.args.name.now 43 _ _ r.0
+returns-in-Dname c = let r = subst (EndsAt c.args.zone.now 43 c.args.name.now) c.in-Dname.is c.in_ok-found.ensures in c.new-in-Dname.ensures.items ∙ dname_none c.args.zone.now c.args.name.now 43 _ _ r.0

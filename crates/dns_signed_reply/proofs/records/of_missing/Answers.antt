@@ -24,4 +24,4 @@ returns-in-None c = λ u h.
     let n = c.args.name.now in
     let e : star ∷ c.behind.result ≡ wildcard z n = ap (λ (x : List (List ℕ)). star ∷ x) (c.behind.ensures ∙ sym h.encloser_) in
     let f = subst (λ (x : List (List ℕ)). IsNode z x (option_copied c.in_ok-found.found)) e c.in_ok-found.ensures in
-    c.new.ensures ∙ wild_none z n u c.args.skipped h (option_copied c.in_ok-found.found) (ap option_copied c.in-None.is) f c.args.rtype
+    c.new.ensures.items ∙ wild_none z n u c.args.skipped h (option_copied c.in_ok-found.found) (ap option_copied c.in-None.is) f c.args.rtype

@@ -14,4 +14,4 @@ returns-then-is_in_zone c =
     if_ok (λ v. v.items ≡ if_within (asked_region z 43 n) (asked_records z n t)) (λ v. v.items ≡ owned_records z n t) c.owned_within.result c.owned_within.ensures (λ v e. e ∙ inside_is z n (asked_records z n t) (sym c.is_in_zone.ensures ∙ c.if-is_in_zone.true))
 
 pub returns : goal.returns
-returns c = c.new.ensures ∙ outside_is c.args.zone.now c.args.name.now (asked_records c.args.zone.now c.args.name.now c.args.rtype) (sym c.is_in_zone.ensures ∙ c.if-is_in_zone.false)
+returns c = c.new.ensures.items ∙ outside_is c.args.zone.now c.args.name.now (asked_records c.args.zone.now c.args.name.now c.args.rtype) (sym c.is_in_zone.ensures ∙ c.if-is_in_zone.false)

@@ -19,10 +19,10 @@ returns-in-Node c =
     if_ok (λ v. v.items ≡ at_places z.records (kind_places t m)) (λ v. v.items ≡ if_within (asked_region z 43 n) (asked_records z n t)) c.of_node.result c.of_node.ensures (λ v e. e ∙ node_asked_within z n 43 m r t)
 
 pub returns-in-Missing : goal.returns-in-Missing
-returns-in-Missing c = c.new.ensures ∙ missing_asked c.args.zone.now c.args.name.now 43 _ (subst (EndsAt c.args.zone.now 43 c.args.name.now) c.in-Missing.is c.in_ok-found.ensures) c.args.rtype
+returns-in-Missing c = c.new.ensures.items ∙ missing_asked c.args.zone.now c.args.name.now 43 _ (subst (EndsAt c.args.zone.now 43 c.args.name.now) c.in-Missing.is c.in_ok-found.ensures) c.args.rtype
 
 pub returns-in-Cut : goal.returns-in-Cut
-returns-in-Cut c = c.new-in-Cut.ensures ∙ cut_none c.args.zone.now c.args.name.now 43 _ _ (subst (EndsAt c.args.zone.now 43 c.args.name.now) c.in-Cut.is c.in_ok-found.ensures)
+returns-in-Cut c = c.new-in-Cut.ensures.items ∙ cut_none c.args.zone.now c.args.name.now 43 _ _ (subst (EndsAt c.args.zone.now 43 c.args.name.now) c.in-Cut.is c.in_ok-found.ensures)
 
 pub returns-in-Dname : goal.returns-in-Dname
-returns-in-Dname c = let r = subst (EndsAt c.args.zone.now 43 c.args.name.now) c.in-Dname.is c.in_ok-found.ensures in c.new-in-Dname.ensures ∙ dname_none c.args.zone.now c.args.name.now 43 _ _ r.0
+returns-in-Dname c = let r = subst (EndsAt c.args.zone.now 43 c.args.name.now) c.in-Dname.is c.in_ok-found.ensures in c.new-in-Dname.ensures.items ∙ dname_none c.args.zone.now c.args.name.now 43 _ _ r.0

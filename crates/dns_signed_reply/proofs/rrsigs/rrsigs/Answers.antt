@@ -4,7 +4,7 @@ use Rattle.dns_signed_reply.proofs.RrsigLaws.{ended, next, none_yet, rest}
 use Rattle.dns_signed_reply.proofs.rrsigs.rrsigs.Goals as goal
 
 pub each-init : goal.each-init
-each-init c = ap (λ (l : List Record). l ++ rest c.args.zone.now c.args.records.now 0) c.new-found.ensures ∙ none_yet c.args.zone.now c.args.records.now
+each-init c = ap (λ (l : List Record). l ++ rest c.args.zone.now c.args.records.now 0) c.new-found.ensures.items ∙ none_yet c.args.zone.now c.args.records.now
 
 pub each-preserved : goal.each-preserved
 each-preserved c =
