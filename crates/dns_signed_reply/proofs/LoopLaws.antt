@@ -24,6 +24,10 @@ one_more {A} {B} f j xs i d old now new h e g =
     ∙ (append_assoc old (f (take i xs)) (f (get_or xs i d ∷ []))
     ∙ ap (λ (l : List B). old ++ l) (sym (ap f (take_more xs i d h) ∙ j (take i xs) (get_or xs i d ∷ [])))))
 
+-- where the element was read
+pub one_item : {A B : Type 0} (f : List A → List B) → ((xs ys : List A) → f (xs ++ ys) ≡ f xs ++ f ys) → (xs : List A) (i : ℕ) (x : A) (old now new : List B) → i < length xs → x ≡ get_or xs i x → now ≡ old ++ f (take i xs) → new ≡ now ++ f (x ∷ []) → new ≡ old ++ f (take (i + 1) xs)
+one_item {A} {B} f j xs i x old now new h q e g = one_more f j xs i x old now new h e (g ∙ ap (λ (y : A). now ++ f (y ∷ [])) q)
+
 pub all_added : {A B : Type 0} (f : List A → List B) (xs : List A) (i : ℕ) (old now : List B) → length xs ≤ i → now ≡ old ++ f (take i xs) → now ≡ old ++ f xs
 all_added {A} {B} f xs i old now h e = e ∙ ap (λ (l : List A). old ++ f l) (take_all i xs h)
 

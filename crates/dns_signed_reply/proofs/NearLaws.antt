@@ -275,12 +275,11 @@ module _ (s : SignedState) (t : ℕ) where
   pub led_other : (r : Record) → is_of 5 r ≡ false → [] ≡ led_to r
   led_other r h = sym (ap (λ (b : Bool). if b then led_by (target r.rdata) else []) h)
 
-  pub target_next : (rs : List Record) (i : ℕ) (d : Record) (old now new : List Record) → i < length rs → now ≡ nsec_records_of s.zone old (nsecs_inside s t (flat_map led_to (take i rs))) → new ≡ nsec_records_of s.zone now (nsecs_inside s t (led_to (get_or rs i d))) →
+  pub target_next : (rs : List Record) (i : ℕ) (r : Record) (old now new : List Record) → i < length rs → r ≡ get_or rs i r → now ≡ nsec_records_of s.zone old (nsecs_inside s t (flat_map led_to (take i rs))) → new ≡ nsec_records_of s.zone now (nsecs_inside s t (led_to r)) →
       new ≡ nsec_records_of s.zone old (nsecs_inside s t (flat_map led_to (take (i + 1) rs)))
-  target_next rs i d old now new h e f =
-      let r = get_or rs i d in
+  target_next rs i r old now new h q e f =
       let k : flat_map led_to (take (i + 1) rs) ≡ flat_map led_to (take i rs) ++ led_to r =
-      ap (flat_map led_to) (take_more rs i d h) ∙ (flat_map-append led_to (take i rs) (r ∷ []) ∙ ap (λ (l : List (List (List ℕ))). flat_map led_to (take i rs) ++ l) (append-nil (led_to r))) in
+      ap (flat_map led_to) (take_more rs i r h ∙ ap (λ (x : Record). take i rs ++ x ∷ []) (sym q)) ∙ (flat_map-append led_to (take i rs) (r ∷ []) ∙ ap (λ (l : List (List (List ℕ))). flat_map led_to (take i rs) ++ l) (append-nil (led_to r))) in
       f
       ∙ (ap (λ (l : List Record). nsec_records_of s.zone l (nsecs_inside s t (led_to r))) e
       ∙ (sym (nsecs_join s.zone old (nsecs_inside s t (flat_map led_to (take i rs))) (nsecs_inside s t (led_to r)))

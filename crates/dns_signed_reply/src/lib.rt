@@ -27,7 +27,8 @@
 //!
 //! # What a body could still get away with
 //!
-//! How often the zone is walked. By reading the code it is once for each RRset, and twice for each name that is denied.
+//! How often the zone is walked and how often records are copied. By reading the code, with DO it is walked once for each name
+//! of a chain of aliases and once more for its denial, and once for each RRset and each NSEC record that is given.
 #![tactic(auto)]
 
 mod chain;

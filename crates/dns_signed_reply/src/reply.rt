@@ -16,7 +16,7 @@ use crate::denials::denials;
 use crate::plain::PlainReply;
 use crate::records::{extended, owned_records};
 use crate::rrsigs::with_rrsigs;
-use dns_base::{AdditionalBuilder, Message, PushError, QuestionRef, Rcode, Record, Rtype, WireRecords};
+use dns_base::{AdditionalBuilder, Message, PushError, QuestionRef, Record, Rtype, WireRecords};
 use dns_name::OutOfMemory;
 use dns_name_server::name_server_reply;
 use dns_opt::MessageOpt;
@@ -111,20 +111,20 @@ fn written(alloc: Global, records: &[Record]) -> Result<WireRecords, OutOfMemory
     Ok(all)
 }
 
-/// A reply to a query that has these records.
+/// A reply to a query, with the response code and AA of a reply, that has these records.
 fn built(
     alloc: Global,
     query: &Message,
-    code: (Rcode, bool),
+    reply: &PlainReply,
     answers: &WireRecords,
     authority: &WireRecords,
     additional: &WireRecords,
 ) -> Result<AdditionalBuilder, PushError>
-    ensures { Builds (unlimited (wire_message query.now (record { aa = code.1; rcode = code.0; answers = answers.now; authority = authority.now; additional = additional.now }))) result }
+    ensures { Builds (unlimited (wire_message query.now (record { aa = reply.now.aa; rcode = reply.now.rcode; answers = answers.now; authority = authority.now; additional = additional.now }))) result }
 {
-    let mut reply = begin_reply(alloc, query, code.0, code.1)?;
-    reply.push_records(answers)?;
-    let mut behind = reply.authority();
+    let mut begun = begin_reply(alloc, query, reply.rcode, reply.aa)?;
+    begun.push_records(answers)?;
+    let mut behind = begun.authority();
     behind.push_records(authority)?;
     let mut last = behind.additional();
     last.push_records(additional)?;
@@ -153,16 +153,15 @@ fn in_room(
     requires { AreAllLawful (said reply.now) }
     ensures { Builds (unlimited (zone_message query.now (as_room room query.now (take unsigned reply.now.additional.items) (said reply.now)))) result }
 {
-    let code = (reply.rcode, reply.aa);
     let answers = written(alloc, reply.answers.as_slice())?;
     let authority = written(alloc, reply.authority.as_slice())?;
     let all = written(alloc, reply.additional.as_slice())?;
-    let whole = built(alloc, query, code, &answers, &authority, &all);
+    let whole = built(alloc, query, reply, &answers, &authority, &all);
     if keeps_room(&whole, room) {
         return whole;
     }
     let some = first_written(alloc, reply.additional.as_slice(), unsigned)?;
-    built(alloc, query, code, &answers, &authority, &some)
+    built(alloc, query, reply, &answers, &authority, &some)
 }
 
 /// The first of some records as they are written, of so many.

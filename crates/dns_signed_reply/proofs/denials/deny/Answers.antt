@@ -16,7 +16,7 @@ returns-in-Some c =
     let v = c.chain-chain.ensures.value in
     let l = subst (λ (ns : List NsecState). IsLastOf ns name c.in_ok-found.found) v c.in_ok-found.ensures.last in
     let k = rw c.in-Some.is at l in
-    let sorted = subst AreSorted (c.nsecs-_sorted.ensures.value ∙ v) c.nsecs-_sorted.ensures.sorted in
+    let sorted = subst AreSorted (c.nsecs-sorted.ensures.value ∙ v) c.nsecs-sorted.ensures.sorted in
     on_ok c.add_nsec.result c.add_nsec.ensures
     (λ e. e ∙ (ap (λ (z : ZoneState). nsec_records_of z c.args.into.now.items (n ∷ [])) c.zone.ensures ∙ ap (nsec_records_of s.zone c.args.into.now.items) (sym (near_some s.nsecs sorted name n k))))
 
@@ -27,5 +27,5 @@ returns-in-None c =
     let v = c.chain-chain.ensures.value in
     let l = subst (λ (ns : List NsecState). IsLastOf ns name c.in_ok-found.found) v c.in_ok-found.ensures.last in
     let k = rw c.in-None.is at l in
-    let sorted = subst AreSorted (c.nsecs-_sorted.ensures.value ∙ v) c.nsecs-_sorted.ensures.sorted in
+    let sorted = subst AreSorted (c.nsecs-sorted.ensures.value ∙ v) c.nsecs-sorted.ensures.sorted in
     ap (nsec_records_of s.zone c.args.into.now.items) (sym (near_none s.nsecs sorted name k))

@@ -11,14 +11,14 @@ use Rattle.dns_signed_reply.specs.SignedReplies.{nsec_records_of}
 use Rattle.dns_signed_reply.proofs.NearLaws.{for_both}
 use Rattle.dns_signed_reply.proofs.denials.deny_both.Goals as goal
 
-pub returns-in-Some : goal.returns-in-Some
-returns-in-Some c =
+pub returns : goal.returns
+returns c =
     let s = c.args.zone.now in
     let z = s.zone in
     let name = c.args.name.now in
     let v = c.chain-chain.ensures.value in
     let w = subst (λ (ns : List NsecState). IsWhole z ns) v c.chain-chain.ensures.whole in
-    let sorted = subst AreSorted (c.nsecs-_sorted.ensures.value ∙ v) c.nsecs-_sorted.ensures.sorted in
+    let sorted = subst AreSorted (c.nsecs-sorted.ensures.value ∙ v) c.nsecs-sorted.ensures.sorted in
     let n = c.in-Some.denial.name.now in
     let m = c.in-Some.denial.wildcard.now in
     let l = subst (λ (ns : List NsecState). MatchOption c.in_ok-found.found (HasNoZone ns name) (λ b. AreLast ns name b.name.now b.wildcard.now)) v c.in_ok-found.ensures.last in
@@ -26,9 +26,9 @@ returns-in-Some c =
     let below = last_wildcard z s.nsecs w name n m k.0 c.requires.answered.cut c.requires.missing k.1 in
     let old = c.args.into.now.items in
     let mid = c.add_nsec.new.into.items in
-    let new = c.add_nsec-2.new.into.items in
-    on_ok c.add_nsec-2.result c.add_nsec-2.ensures
-    (λ e. for_both z s.nsecs old sorted name (wildcard z name) n m mid new k.0 below (c.in_ok-add_nsec.ensures ∙ ap (λ (x : ZoneState). nsec_records_of x old (n ∷ [])) c.zone.ensures) (e ∙ ap (λ (x : ZoneState). nsec_records_of x mid (m ∷ [])) c.zone-2.ensures))
+    let new = c.add_nsec-in-Some.new.into.items in
+    on_ok c.add_nsec-in-Some.result c.add_nsec-in-Some.ensures
+    (λ e. for_both z s.nsecs old sorted name (wildcard z name) n m mid new k.0 below (c.in_ok-add_nsec-in-Some.ensures ∙ ap (λ (x : ZoneState). nsec_records_of x old (n ∷ [])) c.zone.ensures) (e ∙ ap (λ (x : ZoneState). nsec_records_of x mid (m ∷ [])) c.zone-in-Some.ensures))
 
 pub unreachable-requires : goal.unreachable-requires
 unreachable-requires c =

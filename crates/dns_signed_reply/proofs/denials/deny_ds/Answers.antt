@@ -18,7 +18,7 @@ pub returns-in-Some : goal.returns-in-Some
 returns-in-Some c = λ t name h.
     let s = c.args.zone.now in
     let z = s.zone in
-    let w = subst (λ (ns : List NsecState). IsWhole z ns) c.chain-_chain.ensures.value c.chain-_chain.ensures.whole in
+    let w = subst (λ (ns : List NsecState). IsWhole z ns) c.chain-chain.ensures.value c.chain-chain.ensures.whole in
     let rs = at_places z.records (kind_places 2 c.args.kinds.now) in
     let r = c.in-Some.server.now in
     let o : c.as_slice.result.now ≡ rs = c.as_slice.ensures.value ∙ (c.in_ok-servers.ensures ∙ ap (λ (x : ZoneState). at_places x.records (kind_places 2 c.args.kinds.now)) c.zone.ensures) in
@@ -27,11 +27,11 @@ returns-in-Some c = λ t name h.
     let k : (if are_some (owned_records z cut 43) then [] else cut ∷ []) ≡ denied z t name = cut_denied z s.nsecs w t name rs h cut (c.for_ref.ensures.value ∙ owner_of rs r e) in
     on_ok c.deny_insecure.result c.deny_insecure.ensures (λ f. f ∙ ap (λ (l : List (List (List ℕ))). nsec_records_of z c.args.into.now.items (flat_map (nearest s.nsecs) l)) k)
 
-pub returns-in-None : goal.returns-in-None
-returns-in-None c = λ t name h.
+pub returns : goal.returns
+returns c = λ t name h.
     let s = c.args.zone.now in
     let z = s.zone in
-    let w = subst (λ (ns : List NsecState). IsWhole z ns) c.chain-_chain.ensures.value c.chain-_chain.ensures.whole in
+    let w = subst (λ (ns : List NsecState). IsWhole z ns) c.chain-chain.ensures.value c.chain-chain.ensures.whole in
     let rs = at_places z.records (kind_places 2 c.args.kinds.now) in
     let o : c.as_slice.result.now ≡ rs = c.as_slice.ensures.value ∙ (c.in_ok-servers.ensures ∙ ap (λ (x : ZoneState). at_places x.records (kind_places 2 c.args.kinds.now)) c.zone.ensures) in
     let e : None ≡ head_of rs = c.in-None.ensures.value ∙ (head_at c.as_slice.result.now ∙ ap head_of o) in

@@ -26,7 +26,7 @@ returns-then-gives c =
 pub deny_both-requires : goal.deny_both-requires
 deny_both-requires c =
     let s = c.args.zone.now in
-    let w = subst (λ (ns : List NsecState). IsWhole s.zone ns) c.chain-_chain.ensures.value c.chain-_chain.ensures.whole in
+    let w = subst (λ (ns : List NsecState). IsWhole s.zone ns) c.chain-chain.ensures.value c.chain-chain.ensures.whole in
     record {
       inside = c.requires.inside;
       answered = missing_answered s.zone c.args.rtype c.args.name.now s.nsecs w c.args.skipped c.requires.reached;

@@ -26,8 +26,8 @@ returns-in-None c =
     let k : nat_eq (data_type r.rdata) 5 ≡ true = grind (arith, nat_tests) in
     ap (λ (x : List (List (List ℕ))). nsec_records_of s.zone c.args.into.now.items (nsecs_inside s t x)) (led_nowhere s t r k c.in-None.ensures)
 
-pub returns-then-to_int-ne5 : goal.returns-then-to_int-ne5
-returns-then-to_int-ne5 c =
+pub returns-then-to_int-ne-CNAME : goal.returns-then-to_int-ne-CNAME
+returns-then-to_int-ne-CNAME c =
     let s = c.args.zone.now in
     let t = c.args.rtype in
     let r = c.args.alias.now in

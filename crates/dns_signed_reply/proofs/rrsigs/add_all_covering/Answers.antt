@@ -4,7 +4,7 @@ use Rattle.dns_base.specs.Records.{data_type}
 use Rattle.dns_message.specs.declared.record.Record.{Record}
 use Rattle.dns_denial.specs.Signed.{is_signature}
 use Rattle.dns_signed_reply.specs.SignedReplies.{timed}
-use Rattle.dns_signed_reply.proofs.LoopLaws.{all_added, kept_joined, one_more}
+use Rattle.dns_signed_reply.proofs.LoopLaws.{all_added, kept_joined, one_item}
 use Rattle.dns_signed_reply.proofs.rrsigs.add_all_covering.Goals as goal
 
 pub each-init : goal.each-init
@@ -13,7 +13,7 @@ each-init c = sym (append-nil c.args.into.now.items)
 pub each-preserved : goal.each-preserved
 each-preserved c =
     let r = c.args.signed.now in
-    one_more (λ (l : List Record). map (timed r) (filter (is_signature (data_type r.rdata)) l)) (kept_joined (timed r) (is_signature (data_type r.rdata))) c.args.signatures.now c.each.signature-index _ c.args.into.now.items c.each.into.items c.add_covering.new.into.items c.each-test.true c.each.invariant
+    one_item (λ (l : List Record). map (timed r) (filter (is_signature (data_type r.rdata)) l)) (kept_joined (timed r) (is_signature (data_type r.rdata))) c.args.signatures.now c.each.signature-index c.signature-item.result c.args.into.now.items c.each.into.items c.add_covering.new.into.items c.each-test.true c.signature-item.is c.each.invariant
     c.in_ok-add_covering.ensures
 
 pub returns : goal.returns

@@ -25,8 +25,8 @@ returns-in-Some c =
     if_ok (λ (s : Step). StepsTo old new s (λ go. behind_alias d (by_target go t n d (target d.rdata)))) (λ (s : Step). StepsTo old new s (λ go. by_dname go t n rs)) c.give_dname.result c.give_dname.ensures
     (λ s g go. g go ∙ ap (behind old) (sym (dname_head go t n rs d e)))
 
-pub returns-in-None : goal.returns-in-None
-returns-in-None c = λ go.
+pub returns : goal.returns
+returns c = λ go.
     let rs = at_places c.args.zone.now.records (kind_places 39 c.args.kinds.now) in
     let e : None ≡ head_of rs = c.in-None.ensures.value ∙ (head_at c.as_slice.result.now ∙ ap head_of (c.as_slice.ensures.value ∙ c.in_ok-found.ensures)) in
     ap (behind c.args.given.now.items) (c.nothing.ensures ∙ sym (dname_none go c.args.rtype c.args.name.now rs e))
