@@ -1,4 +1,4 @@
-use Rattle.std.proofs.Common.{◌≡◌, ℕ, List, map, take, ap, sym, ◌∙◌, arith}
+use Rattle.std.proofs.Common.{◌≡◌, ◌<◌, ℕ, List, map, take, ap, sym, ◌∙◌, arith}
 use Rattle.dns_base.specs.Records.{record_of}
 use Rattle.dns_message.specs.declared.record.Record.{Record}
 use Rattle.dns_zone.specs.ZoneReply.{ZoneReply}
@@ -21,14 +21,16 @@ first_written-requires c = rw c.as_slice-4.ensures.value c.requires.additional
 
 pub returns-then-keeps_room : goal.returns-then-keeps_room
 returns-then-keeps_room c =
+    let small : c.args.room < 65536 = omega arith in
     let o = c.args.query.now in
     let r = said c.args.reply.now in
     let unsigned = take c.args.unsigned r.additional in
     let b = built_of o r c.in_ok-answers.answers c.in_ok-authority.authority c.in_ok-all.all c.built-whole.result (c.in_ok-answers.ensures ∙ ap (map record_of) c.as_slice.ensures.value) (c.in_ok-authority.ensures ∙ ap (map record_of) c.as_slice-2.ensures.value) (c.in_ok-all.ensures ∙ ap (map record_of) c.as_slice-3.ensures.value) c.built-whole.ensures in
-    whole_kept c.args.room c.ranges.room o r unsigned c.built-whole.result b (sym c.keeps_room.ensures ∙ c.if-keeps_room.true)
+    whole_kept c.args.room small o r unsigned c.built-whole.result b (sym c.keeps_room.ensures ∙ c.if-keeps_room.true)
 
 pub returns : goal.returns
 returns c =
+    let small : c.args.room < 65536 = omega arith in
     let o = c.args.query.now in
     let r = said c.args.reply.now in
     let unsigned = take c.args.unsigned r.additional in
@@ -36,4 +38,4 @@ returns c =
     let bare : ZoneReply = record r { additional = unsigned } in
     let g = built_of o bare c.in_ok-answers.answers c.in_ok-authority.authority c.in_ok-some.some c.built.result (c.in_ok-answers.ensures ∙ ap (map record_of) c.as_slice.ensures.value) (c.in_ok-authority.ensures ∙ ap (map record_of) c.as_slice-2.ensures.value)
         (c.in_ok-some.ensures ∙ ap (λ (l : List Record). map record_of (take c.args.unsigned l)) c.as_slice-4.ensures.value) c.built.ensures in
-    bare_kept c.args.room c.ranges.room o r unsigned c.built-whole.result c.built.result b (sym c.keeps_room.ensures ∙ c.if-keeps_room.false) g
+    bare_kept c.args.room small o r unsigned c.built-whole.result c.built.result b (sym c.keeps_room.ensures ∙ c.if-keeps_room.false) g

@@ -21,7 +21,7 @@ in_room-requires c =
     let q = c.args.question.now in
     let p : said c.in_ok-plain.plain ≡ name_server_reply s.zone q = c.in_ok-plain.ensures ∙ ap (λ (z : ZoneState). name_server_reply z q) c.zone-tree.ensures in
     let e : said c.in_ok-signed.signed ≡ do_reply s q (name_server_reply s.zone q) = c.in_ok-signed.ensures ∙ ap (do_reply s q) p in
-    let h : AreLawful s.zone.records = subst AreLawful (c.records-_lawful.ensures.value ∙ ap (λ (z : ZoneState). z.records) c.zone-tree.ensures) c.records-_lawful.ensures.lawful in
+    let h : AreLawful s.zone.records = subst AreLawful (c.records-lawful.ensures.value ∙ ap (λ (z : ZoneState). z.records) c.zone-tree.ensures) c.records-lawful.ensures.lawful in
     subst AreAllLawful (sym e) (do_lawful s q h)
 
 pub returns : goal.returns
