@@ -72,11 +72,7 @@ fn add_other(
 }
 
 /// The records whose RRset some don't have.
-fn others(
-    alloc: Global,
-    given: &[Record],
-    records: &[Record],
-) -> Result<Vec<Record>, OutOfMemory>
+fn others(alloc: Global, given: &[Record], records: &[Record]) -> Result<Vec<Record>, OutOfMemory>
     ensures { IfOk result (λ v. v.items ≡ others given.now records.now) }
 {
     let mut found = Vec::new(alloc);

@@ -22,10 +22,7 @@ use std::alloc::Global;
 const DS: u16 = 43;
 
 /// Records, and others behind them.
-pub(crate) fn extended(
-    records: Vec<Record>,
-    more: Vec<Record>,
-) -> Result<Vec<Record>, OutOfMemory>
+pub(crate) fn extended(records: Vec<Record>, more: Vec<Record>) -> Result<Vec<Record>, OutOfMemory>
     ensures { IfOk result (λ v. v.items ≡ records.items ++ more.items) }
 {
     let mut records = records;
@@ -83,11 +80,7 @@ pub(crate) fn of_node(
 }
 
 /// A record as another name's.
-fn copied_as(
-    alloc: Global,
-    resource: &Record,
-    name: &NameRef<'_>,
-) -> Result<Record, OutOfMemory>
+fn copied_as(alloc: Global, resource: &Record, name: &NameRef<'_>) -> Result<Record, OutOfMemory>
     ensures { IfOk result (λ r. r ≡ given_as name.now resource.now) }
 {
     let mut copy = resource.try_clone(alloc)?;

@@ -54,9 +54,7 @@ fn is_signature(resource: &Record, rtype: u16) -> bool
 fn have_signatures(records: &[Record], owner: &Name) -> bool
     ensures { result ≡ have_signatures records.now owner.now }
 {
-    records
-        .iter()
-        .any(|other| other.rdata.rtype().to_int() == RRSIG && other.owner == *owner)
+    records.iter().any(|other| other.rdata.rtype().to_int() == RRSIG && other.owner == *owner)
 }
 
 /// An RRSIG with the TTL of a record.
@@ -134,11 +132,7 @@ fn add_rrsigs(
 }
 
 /// The RRSIGs of records, once for each RRset, but for an owner whose RRSIGs are among them.
-fn rrsigs(
-    zone: &ZoneTree,
-    alloc: Global,
-    records: &[Record],
-) -> Result<Vec<Record>, OutOfMemory>
+fn rrsigs(zone: &ZoneTree, alloc: Global, records: &[Record]) -> Result<Vec<Record>, OutOfMemory>
     ensures { IfOk result (λ v. v.items ≡ rrsigs zone.now records.now [] records.now) }
 {
     let mut found = Vec::new(alloc);

@@ -63,11 +63,7 @@ fn followed_alias(rtype: u16, aliases: &[Record]) -> Option<&Record>
 }
 
 /// Gives an alias, and goes to its target.
-fn follow(
-    alloc: Global,
-    alias: &Record,
-    given: &mut Vec<Record>,
-) -> Result<Step, OutOfMemory>
+fn follow(alloc: Global, alias: &Record, given: &mut Vec<Record>) -> Result<Step, OutOfMemory>
     ensures { IfOk result (λ s. StepsTo given.old.items given.new.items s (λ go. behind_alias alias.now (gone_to go (target alias.now.rdata)))) }
 {
     let copy = alias.try_clone(alloc)?;

@@ -37,5 +37,5 @@ returns c =
     let b = built_of o r c.in_ok-answers.answers c.in_ok-authority.authority c.in_ok-all.all c.built-whole.result (c.in_ok-answers.ensures ∙ ap (map record_of) c.as_slice.ensures.value) (c.in_ok-authority.ensures ∙ ap (map record_of) c.as_slice-2.ensures.value) (c.in_ok-all.ensures ∙ ap (map record_of) c.as_slice-3.ensures.value) c.built-whole.ensures in
     let bare : ZoneReply = record r { additional = unsigned } in
     let g = built_of o bare c.in_ok-answers.answers c.in_ok-authority.authority c.in_ok-some.some c.built.result (c.in_ok-answers.ensures ∙ ap (map record_of) c.as_slice.ensures.value) (c.in_ok-authority.ensures ∙ ap (map record_of) c.as_slice-2.ensures.value)
-        (c.in_ok-some.ensures ∙ ap (λ (l : List Record). map record_of (take c.args.unsigned l)) c.as_slice-4.ensures.value) c.built.ensures in
+    (c.in_ok-some.ensures ∙ ap (λ (l : List Record). map record_of (take c.args.unsigned l)) c.as_slice-4.ensures.value) c.built.ensures in
     bare_kept c.args.room small o r unsigned c.built-whole.result c.built.result b (sym c.keeps_room.ensures ∙ c.if-keeps_room.false) g
