@@ -15,10 +15,10 @@ use Rattle.dns_route.specs.Routes.{ends_name}
 use Rattle.dns_zone.specs.Owned.{ZoneState}
 use Rattle.dns_zone.specs.ZoneTurns.{zone_begun, zone_message}
 use Rattle.dns_denial.specs.Nsecs.{NsecState}
-use Rattle.dns_signed_zone.specs.SignedZones.{SignedState}
 use Rattle.dns_authority.specs.Networks.{is_in_any}
-use Rattle.dns_authority.specs.ServedZones.{room_over, served_reply}
+use Rattle.dns_authority.specs.ServedZones.{nsecs_of, room_over, served_reply, tree_of}
 use Rattle.dns_authority.specs.declared.networks.Network.{Network}
+use Rattle.dns_authority.specs.declared.zone_data.ZoneData.{ZoneData}
 use Rattle.dns_transfer.specs.Transfers.{bunched, message_item, transfer, transfer_records}
 
 -- a zone, the NSECs of its chain where it is signed, and the networks that may transfer it
@@ -121,9 +121,9 @@ pub record AuthorityState : Type 0 where
 abbrev pub and_zone : List Network → ZoneState → AuthorityState → AuthorityState
 and_zone allowed z a = record a { zones = a.zones ++ (record { zone = z; nsecs = None; allowed = allowed }) ∷ [] }
 
--- and so is a signed one
-abbrev pub and_signed : List Network → SignedState → AuthorityState → AuthorityState
-and_signed allowed s a = record a { zones = a.zones ++ (record { zone = s.zone; nsecs = Some s.nsecs; allowed = allowed }) ∷ [] }
+-- and so is one that is signed or not
+abbrev pub and_data : List Network → ZoneData → AuthorityState → AuthorityState
+and_data allowed d a = record a { zones = a.zones ++ (record { zone = tree_of d; nsecs = nsecs_of d; allowed = allowed }) ∷ [] }
 
 abbrev pub authority_answer : {Meta : Type 0} → AuthorityState → Req Meta → ℕ → Answer
 authority_answer a r = by_opcode a.zones r (header_of r.octets).opcode

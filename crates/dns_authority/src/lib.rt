@@ -2,8 +2,8 @@
 //!
 //! - `Authority` is a service with zones by their apex.
 //! - `add` adds a `ZoneTree` of dns_zone_tree, whose records each have room in a reply. It may be transferred to the
-//!   networks of `Authority::new`, or to those of its own that `add_for` takes. `add_signed` adds a `SignedZone` of
-//!   dns_signed_zone, whose replies to DO have RRSIGs and denials.
+//!   networks of `Authority::new`, or to those of its own that `add_for` takes. `add_data` adds a zone that
+//!   is signed or not: the replies of a `SignedZone` of dns_signed_zone to DO have RRSIGs and denials.
 //! - `Network` is the addresses whose first bits are those of an address.
 //! - `AuthorityStream` and `AuthorityFuture` are its replies: one reply, or the replies of a transfer.
 //!
@@ -44,3 +44,4 @@ pub use laws::{
 };
 pub use networks::Network;
 pub use stream::{AuthorityFuture, AuthorityStream};
+pub use zone_data::ZoneData;

@@ -17,22 +17,24 @@ use std::alloc::Global;
 /// How many octets layers may add to a reply: an OPT record with a cookie, an identifier and padding.
 const ADDED: u16 = 300;
 
-/// The records of a zone.
+/// The records of a zone, as an authority takes them.
 #[derive(Drop)]
-pub(crate) enum ZoneData {
+pub enum ZoneData {
     /// A zone whose NSEC records, if there are any, are records as others.
     Unsigned(ZoneTree),
     /// A zone whose chain of NSEC records is whole.
     Signed(SignedZone),
 }
 
-/// Its records, in a tree.
-pub(crate) fn tree_of(zone: &ZoneData) -> &ZoneTree
-    ensures { result.now ≡ tree_of zone.now }
-{
-    match zone {
-        ZoneData::Unsigned(tree) => tree,
-        ZoneData::Signed(signed) => signed.zone(),
+impl ZoneData {
+    /// Its apex and records.
+    pub fn tree(&self) -> &ZoneTree
+        ensures { result.now ≡ tree_of self.now }
+    {
+        match self {
+            ZoneData::Unsigned(tree) => tree,
+            ZoneData::Signed(signed) => signed.zone(),
+        }
     }
 }
 

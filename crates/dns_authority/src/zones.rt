@@ -10,7 +10,7 @@ ghost use Rattle.dns_transfer.specs.Transfers.{bunched, transfer, transfer_recor
 
 use crate::laws::same_names_are_folded;
 use crate::networks::{Network, is_in_any};
-use crate::zone_data::{ZoneData, room_over, served_reply, tree_of};
+use crate::zone_data::{ZoneData, room_over, served_reply};
 use dns_base::{Name, QuestionRef};
 use dns_route::matches_are_suffixes;
 use dns_service::{OutOfMemory, ReplyStream, Request, ServiceResult};
@@ -77,7 +77,7 @@ impl ServedZone {
     ) -> Result<ServedZone, OutOfMemory>
         ensures { IfOk result (λ s. s ≡ record { zone = tree_of zone; nsecs = nsecs_of zone; allowed = allowed.items }) }
     {
-        let bunches = kept_bunches(alloc, tree_of(&zone), allowed.as_slice())?;
+        let bunches = kept_bunches(alloc, zone.tree(), allowed.as_slice())?;
         Ok(ServedZone {
             zone,
             allowed,
@@ -89,7 +89,7 @@ impl ServedZone {
     fn apex(&self) -> &Name
         ensures { result.now ≡ self.now.zone.apex }
     {
-        tree_of(&self.zone).apex()
+        self.zone.tree().apex()
     }
 
     /// Whether its apex ends the name of a question.
