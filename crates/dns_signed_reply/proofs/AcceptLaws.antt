@@ -1,7 +1,7 @@
 -- What a reply says is accepted with the NSECs that are chosen.
-use Rattle.std.proofs.Common.{◌≡◌, ℕ, zero, suc, ◌+◌, ◌<◌, ◌≤◌, Bool, true, false, List, [], ◌∷◌, ◌++◌, length, get_or, cond, refl, ap, sym, subst, ◌∙◌, arith, inl, inr}
+use Rattle.std.proofs.Common.{◌≡◌, ℕ, zero, suc, ◌<◌, ◌≤◌, Bool, true, false, List, [], ◌∷◌, length, get_or, refl, ap, sym, subst, ◌∙◌, arith, inl, inr}
 use Rattle.std.specs.Prelude.{◌||◌, ◌&&◌, ◌⊎◌, not, if◌then◌else◌}
-use Rattle.std.specs.List.{AllPairs, Contains, filter, flat_map, list_any}
+use Rattle.std.specs.List.{AllPairs, Contains, filter, flat_map}
 use Rattle.std.proofs.lemmas.Bool.{true≢false, and_from, cases_Bool, cases_lt, or_left, or_right}
 use Rattle.std.proofs.lemmas.List.Kept.{AllPairs-filter}
 use Rattle.dns_name.specs.Canonical.{same_name}
@@ -26,7 +26,6 @@ use Rattle.dns_denial.proofs.NameLaws.{ends_itself, same_itself}
 use Rattle.dns_denial.proofs.OrderLaws.{before_upto, same_upto}
 use Rattle.dns_denial.proofs.RegionLaws.{asked_cut, reached}
 use Rattle.dns_denial.proofs.StartLaws.{starts, within_all}
-use Rattle.dns_signed_zone.specs.SignedZones.{SignedState}
 use Rattle.dns_signed_reply.proofs.MemberLaws.{from_filter, in_filter, in_flat}
 use Rattle.dns_signed_reply.specs.SignedReplies.{asked_names, chosen, denied, denied_by, denied_names, denied_within, last_of, last_or, led_to, nearest}
 use Rattle.dns_signed_reply.specs.ReplyLaws.{RepliesAreAccepted}

@@ -1,6 +1,6 @@
 -- Signing adds all.
-use Rattle.std.proofs.Common.{◌≡◌, ℕ, zero, suc, ◌+◌, ◌<◌, Bool, true, false, List, [], ◌∷◌, ◌++◌, refl, sym, subst, ◌∙◌, arith, inl, inr}
-use Rattle.std.specs.Prelude.{◌||◌, ◌&&◌, ◌⊎◌, if◌then◌else◌, nat_eq}
+use Rattle.std.proofs.Common.{◌≡◌, zero, suc, Bool, true, false, List, [], ◌∷◌, ◌++◌, refl, sym, subst, ◌∙◌, arith, inl, inr}
+use Rattle.std.specs.Prelude.{◌⊎◌, if◌then◌else◌, nat_eq}
 use Rattle.std.specs.List.{Contains, list_any}
 use Rattle.std.proofs.lemmas.Bool.{and_from, and_parts, eq-eqb, eqb-true}
 use Rattle.dns_base.specs.Records.{data_type}
@@ -12,11 +12,11 @@ use Rattle.dns_zone.specs.Owned.{ZoneState}
 use Rattle.dns_zone.specs.ZoneReply.{ZoneReply}
 use Rattle.dns_zone.specs.ZoneTurns.{zone_message}
 use Rattle.dns_denial.specs.Signed.{is_beside}
-use Rattle.dns_denial.proofs.ListLaws.{Found, found}
+use Rattle.dns_denial.proofs.ListLaws.{found}
 use Rattle.dns_denial.proofs.NameLaws.{same_itself, same_trans}
 use Rattle.dns_signed_zone.specs.SignedZones.{SignedState}
 use Rattle.dns_signed_reply.proofs.MemberLaws.{in_left, in_right}
-use Rattle.dns_signed_reply.specs.SignedReplies.{as_room, asks_do, do_reply, has_room, proved_authority, rrsigs, rrsigs_of, with_rrsigs}
+use Rattle.dns_signed_reply.specs.SignedReplies.{as_room, do_reply, has_room, proved_authority, rrsigs, rrsigs_of, with_rrsigs}
 use Rattle.dns_signed_reply.specs.ReplyLaws.{HasAll, HasSignatures, SigningAddsAll}
 
 -- ---- records of one RRset

@@ -1,6 +1,6 @@
 -- The NSEC records that a reply has are, read, the NSECs that are chosen.
-use Rattle.std.proofs.Common.{◌≡◌, ℕ, zero, suc, ◌+◌, ◌<◌, Bool, true, false, List, [], ◌∷◌, ◌++◌, length, get_or, nat_eq, refl, ap, sym, subst, ◌∙◌, arith, inl, inr}
-use Rattle.std.specs.Prelude.{◌&&◌, ◌⊎◌, not, if◌then◌else◌}
+use Rattle.std.proofs.Common.{◌≡◌, ℕ, zero, suc, ◌<◌, Bool, true, false, List, [], ◌∷◌, ◌++◌, get_or, nat_eq, refl, ap, sym, subst, ◌∙◌, arith, inl, inr}
+use Rattle.std.specs.Prelude.{◌⊎◌, not, if◌then◌else◌}
 use Rattle.std.specs.List.{Contains, filter, list_any}
 use Rattle.std.proofs.lemmas.Bool.{true≢false, and_from, and_parts, cases_order, eq-eqb}
 use Rattle.std.proofs.lemmas.List.{get_or_default}
@@ -12,17 +12,16 @@ use Rattle.dns_message.specs.declared.record.Record.{Record}
 use Rattle.dns_route.specs.Routes.{ends_name}
 use Rattle.dns_zone.specs.Owned.{ZoneState, asked_records, is_asked, is_of, is_owned}
 use Rattle.dns_zone_tree.specs.Regions.{Region, Within, BelowCut, BelowDname, asked_region}
-use Rattle.dns_denial.specs.Chains.{IsWhole}
 use Rattle.dns_denial.specs.Nsecs.{AreSorted, NsecState, is_before, is_up_to}
 use Rattle.dns_denial.specs.Signed.{is_beside}
 use Rattle.dns_denial.proofs.ListLaws.{found}
 use Rattle.dns_denial.proofs.NameLaws.{same_back, same_itself}
 use Rattle.dns_denial.proofs.OrderLaws.{same_upto}
 use Rattle.dns_denial.proofs.StartLaws.{starts, within_all}
-use Rattle.dns_nsec_data.specs.NsecData.{AreNsecs, IsChainOf, IsNsec, nsec_records}
+use Rattle.dns_nsec_data.specs.NsecData.{AreNsecs, IsNsec, nsec_records}
 use Rattle.dns_signed_zone.specs.SignedZones.{SignedState}
 use Rattle.dns_signed_reply.proofs.MemberLaws.{from_both, from_filter, from_flat, in_filter, in_left, in_right}
-use Rattle.dns_signed_reply.specs.SignedReplies.{chosen, denials, denied_names, if_within, last_of, last_or, nearest, nsec_records_of, others, owned_records}
+use Rattle.dns_signed_reply.specs.SignedReplies.{chosen, denied_names, if_within, last_of, last_or, nearest, nsec_records_of, others, owned_records}
 use Rattle.dns_signed_reply.specs.ReplyLaws.{ChosenAreGiven}
 
 -- ---- NSECs and their records

@@ -1,19 +1,19 @@
 -- The data of all records of a reply can be written, where that of the zone's can.
-use Rattle.std.proofs.Common.{◌≡◌, ℕ, zero, suc, ◌-◌, Bool, true, false, List, [], ◌∷◌, ◌++◌, length, map, take, cond, Option, Some, None, refl, subst}
+use Rattle.std.proofs.Common.{ℕ, zero, suc, Bool, true, false, List, [], ◌∷◌, ◌++◌, map, cond, Option, Some, None, refl}
 use Rattle.std.specs.Prelude.{if◌then◌else◌, ◌&&◌, not, nat_eq}
-use Rattle.std.specs.List.{AllByRecursion, filter, list_any}
+use Rattle.std.specs.List.{filter, list_any}
 use Rattle.dns_base.specs.Records.{data_type}
 use Rattle.dns_message.specs.declared.question.Question.{Question}
 use Rattle.dns_message.specs.declared.record.Record.{Record}
 use Rattle.dns_route.specs.Routes.{ends_name}
-use Rattle.dns_zone.specs.Cuts.{glue, is_glue}
+use Rattle.dns_zone.specs.Cuts.{is_glue}
 use Rattle.dns_zone.specs.Owned.{AreLawful, ZoneState, asked_records, is_asked, is_of, target}
-use Rattle.dns_zone.specs.ZoneReply.{ZoneReply, authoritative, denied, exists, follows, negative_soa, referral}
+use Rattle.dns_zone.specs.ZoneReply.{ZoneReply, authoritative, denied, exists, follows, negative_soa}
 use Rattle.dns_zone_tree.specs.Regions.{Region, Within, BelowCut, BelowDname, asked_region, down, is_cut, region}
 use Rattle.dns_zone_tree.specs.Wildcards.{are_some, given_as, had_records, is_covered, wildcard}
 use Rattle.dns_denial.specs.Nsecs.{NsecState}
 use Rattle.dns_denial.specs.Signed.{is_beside, is_signature}
-use Rattle.dns_name_server.specs.NameServerReplies.{behind_alias, by_alias, by_dname, by_region, by_target, found_or_denied, gone_by, gone_to, is_answered, made_alias, name_server_reply, reply_from, substituted, too_long}
+use Rattle.dns_name_server.specs.NameServerReplies.{behind_alias, by_alias, by_dname, by_region, by_target, found_or_denied, gone_by, gone_to, is_answered, made_alias, name_server_reply, reply_from, substituted}
 use Rattle.dns_signed_zone.specs.SignedZones.{SignedState}
 use Rattle.dns_signed_reply.specs.PlainReplies.{AreAllLawful}
 use Rattle.dns_signed_reply.specs.SignedReplies.{chosen, denials, do_reply, ds_of, have_signatures, if_within, nsec_records_of, others, owned_records, proved_authority, reached_records, rrsigs, rrsigs_of, timed, with_rrsigs}

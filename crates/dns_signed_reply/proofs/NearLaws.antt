@@ -1,8 +1,8 @@
 -- The NSECs of names, and the records that they give.
-use Rattle.std.proofs.Common.{◌≡◌, ℕ, zero, suc, ◌+◌, ◌<◌, ◌≤◌, Bool, true, false, List, [], ◌∷◌, ◌++◌, length, map, take, get_or, cond, nat_eq, Option, Some, None, refl, ap, sym, subst, ◌∙◌, arith, inl, inr, append_assoc, append-nil}
-use Rattle.std.specs.Prelude.{◌||◌, ◌&&◌, ◌⊎◌, ◌==◌, not, if◌then◌else◌}
+use Rattle.std.proofs.Common.{◌≡◌, ℕ, zero, ◌+◌, ◌<◌, ◌≤◌, Bool, true, false, List, [], ◌∷◌, ◌++◌, length, take, get_or, cond, nat_eq, Option, Some, None, refl, ap, sym, subst, ◌∙◌, arith, append-nil}
+use Rattle.std.specs.Prelude.{◌||◌, ◌&&◌, ◌==◌, not, if◌then◌else◌}
 use Rattle.std.specs.List.{Contains, filter, flat_map, list_any}
-use Rattle.std.proofs.lemmas.Bool.{true≢false, cases_Bool, false_from_ne_true, not_from_false, true_from_ne_false}
+use Rattle.std.proofs.lemmas.Bool.{true≢false, false_from_ne_true, not_from_false}
 use Rattle.std.proofs.lemmas.Bool.Decides.{nat_tests}
 use Rattle.std.proofs.lemmas.List.{take_all, take_more}
 use Rattle.std.proofs.lemmas.List.Concat.{flat_map-append}
@@ -16,7 +16,7 @@ use Rattle.dns_zone.specs.Owned.{ZoneState, asked_records, is_asked, is_of, is_o
 use Rattle.dns_zone.specs.Places.{places}
 use Rattle.dns_zone.specs.ZoneReply.{exists, follows}
 use Rattle.dns_zone.proofs.PlaceLaws.{no_records, places_count, some_places}
-use Rattle.dns_zone_tree.specs.Kinds.{kind_places, places_in}
+use Rattle.dns_zone_tree.specs.Kinds.{kind_places}
 use Rattle.dns_zone_tree.specs.Regions.{Region, Within, BelowCut, BelowDname, asked_region, down, is_cut, region}
 use Rattle.dns_zone_tree.specs.Walks.{IsNode, ReachesNode, ReachesNone}
 use Rattle.dns_zone_tree.specs.Wildcards.{are_some, had_records, wildcard}
@@ -24,19 +24,18 @@ use Rattle.dns_zone_tree.specs.declared.kinds.Kinds.{Kinds}
 use Rattle.dns_denial.specs.Accepted.{is_given, servers_owner}
 use Rattle.dns_denial.specs.Chains.{IsWhole, is_below_cut}
 use Rattle.dns_denial.specs.Checks.{is_placed}
-use Rattle.dns_denial.specs.Denials.{AllBehind, AreLast, IsAnswered, IsLast, is_under_dname}
-use Rattle.dns_denial.specs.Nsecs.{AreSorted, NsecState, is_before, is_up_to}
+use Rattle.dns_denial.specs.Denials.{AllBehind, IsAnswered, IsLast, is_under_dname}
+use Rattle.dns_denial.specs.Nsecs.{AreSorted, NsecState, is_up_to}
 use Rattle.dns_denial.specs.Signed.{is_beside}
 use Rattle.dns_denial.proofs.AcceptedLaws.{had_some, there}
-use Rattle.dns_denial.proofs.DenialLaws.{last_wildcard}
-use Rattle.dns_denial.proofs.ListLaws.{first, found, present, some_any}
-use Rattle.dns_denial.proofs.NameLaws.{ends_itself, ends_short, ends_tail, ends_trans, same_back, same_ends, same_length}
+use Rattle.dns_denial.proofs.ListLaws.{found, present, some_any}
+use Rattle.dns_denial.proofs.NameLaws.{ends_short, ends_tail, ends_trans, same_back, same_ends, same_length}
 use Rattle.dns_denial.proofs.OrderLaws.{upto_both}
 use Rattle.dns_denial.proofs.RegionLaws.{asked_below, asked_cut, reached}
 use Rattle.dns_denial.proofs.StartLaws.{starts, within_all}
 use Rattle.dns_name_server.specs.Steps.{head_of}
 use Rattle.dns_signed_zone.specs.SignedZones.{SignedState}
-use Rattle.dns_signed_reply.specs.SignedReplies.{chosen, denials, denied, denied_by, denied_within, last_of, last_or, led_by, led_to, nearest, nsec_records_of, others, owned_records, if_within}
+use Rattle.dns_signed_reply.specs.SignedReplies.{chosen, denials, denied, denied_by, last_of, last_or, led_by, led_to, nearest, nsec_records_of, others, owned_records, if_within}
 use Rattle.dns_signed_reply.specs.PlainReplies.{gives, nsecs_inside}
 use Rattle.dns_signed_reply.proofs.AcceptLaws.{last_is}
 use Rattle.dns_signed_reply.proofs.GivenLaws.{sole}

@@ -1,23 +1,22 @@
 -- The records of a name, by what a walk to it ends at.
-use Rattle.std.proofs.Common.{◌≡◌, ℕ, Bool, true, false, List, [], ◌∷◌, map, nat_eq, drop, Some, None, refl, ap, sym, subst, ◌∙◌}
-use Rattle.std.specs.Prelude.{◌&&◌, ◌||◌, if◌then◌else◌, Option, is_some}
-use Rattle.std.specs.List.{filter, list_any}
+use Rattle.std.proofs.Common.{◌≡◌, ℕ, Bool, true, false, List, [], map, nat_eq, Some, None, ap, sym, ◌∙◌}
+use Rattle.std.specs.Prelude.{◌||◌, if◌then◌else◌, Option}
+use Rattle.std.specs.List.{list_any}
 use Rattle.std.proofs.lemmas.Bool.{true≢false, and_parts, false_from_ne_true}
-use Rattle.dns_name.specs.Canonical.{same_name}
 use Rattle.dns_message.specs.declared.record.Record.{Record}
 use Rattle.dns_route.specs.Routes.{ends_name}
 use Rattle.dns_zone.specs.Owned.{ZoneState, asked_records, is_asked, is_of, is_owned}
-use Rattle.dns_zone.specs.Places.{at_places, places}
+use Rattle.dns_zone.specs.Places.{at_places}
 use Rattle.dns_zone.specs.ZoneReply.{exists}
 use Rattle.dns_zone.proofs.PlaceLaws.{at_places_of, no_records}
 use Rattle.dns_zone_tree.specs.Kinds.{kind_places, places_in}
-use Rattle.dns_zone_tree.specs.Regions.{Region, Within, BelowCut, BelowDname, asked_region}
+use Rattle.dns_zone_tree.specs.Regions.{Region, BelowCut, BelowDname, asked_region}
 use Rattle.dns_zone_tree.specs.Walks.{IsNode, ReachesNode, ReachesNone}
 use Rattle.dns_zone_tree.specs.Wildcards.{given_as, had_records, wildcard}
 use Rattle.dns_zone_tree.specs.declared.kinds.Kinds.{Kinds}
 use Rattle.dns_denial.proofs.ListLaws.{found, present}
 use Rattle.dns_denial.proofs.NameLaws.{same_ends}
-use Rattle.dns_signed_reply.specs.SignedReplies.{if_within, owned_records, reached_records}
+use Rattle.dns_signed_reply.specs.SignedReplies.{if_within, reached_records}
 
 -- a name that doesn't exist owns no record
 pub none_asked : (z : ZoneState) (name : List (List ℕ)) (t : ℕ) → exists z name ≡ false → asked_records z name t ≡ []

@@ -1,5 +1,5 @@
 -- A message that is built of a reply's records, with those that there is room for.
-use Rattle.std.proofs.Common.{◌≡◌, ℕ, ◌<◌, ◌≤◌, Bool, true, false, List, [], ◌∷◌, ◌++◌, length, map, take, Ok, Err, refl, ap, sym, subst, ◌∙◌, arith}
+use Rattle.std.proofs.Common.{◌≡◌, ℕ, ◌<◌, Bool, true, false, List, ◌++◌, length, map, take, Ok, Err, ap, sym, subst, ◌∙◌, arith}
 use Rattle.std.specs.Prelude.{if◌then◌else◌, nat_le, Result}
 use Rattle.std.proofs.lemmas.Bool.Decides.{nat_tests}
 use Rattle.std.proofs.lemmas.List.{take_at}
@@ -19,7 +19,7 @@ use Rattle.dns_name_server.specs.NameServerReplies.{name_server_reply}
 use Rattle.dns_name_server.specs.Steps.{WireReply, wire_message, wired}
 use Rattle.dns_signed_zone.specs.SignedZones.{SignedState}
 use Rattle.dns_signed_reply.specs.PlainReplies.{keeps_room, said}
-use Rattle.dns_signed_reply.specs.SignedReplies.{as_room, asks_do, denials, do_reply, ds_of, has_room, proved_authority, rrsigs, secure_reply, with_rrsigs}
+use Rattle.dns_signed_reply.specs.SignedReplies.{as_room, asks_do, denials, do_reply, ds_of, has_room, proved_authority, secure_reply, with_rrsigs}
 use Rattle.dns_signed_reply.specs.declared.plain.PlainReply.{PlainReply}
 
 false_true : (b : Bool) → b ≡ false → b ≡ true → ⊥

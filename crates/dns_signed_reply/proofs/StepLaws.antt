@@ -15,10 +15,10 @@ use Rattle.dns_zone_tree.specs.Regions.{asked_region}
 use Rattle.dns_zone_tree.specs.Walks.{IsNode, ReachesNode, ReachesNone}
 use Rattle.dns_zone_tree.specs.Wildcards.{are_some, given_as, wildcard}
 use Rattle.dns_zone_tree.specs.declared.kinds.Kinds.{Kinds}
-use Rattle.dns_name_server.specs.NameServerReplies.{behind_alias, by_dname, by_region, by_target, gone_by, gone_to, is_answered, made_alias, name_server_reply, reply_from, too_long}
+use Rattle.dns_name_server.specs.NameServerReplies.{behind_alias, by_region, by_target, gone_by, gone_to, is_answered, made_alias, name_server_reply, reply_from, too_long}
 use Rattle.dns_name_server.specs.Steps.{followed_alias, head_of, own_reply}
-use Rattle.dns_name_server.proofs.StepLaws.{alias_given, alias_not, own_alias, own_records, reply_ends, reply_on, reply_stops, wild_alias, wild_records}
-use Rattle.dns_signed_reply.specs.PlainReplies.{StepsTo, alias_or, behind, by_records, said, step_reply}
+use Rattle.dns_name_server.proofs.StepLaws.{own_alias, own_records, reply_ends, reply_on, reply_stops, wild_alias, wild_records}
+use Rattle.dns_signed_reply.specs.PlainReplies.{StepsTo, alias_or, behind, by_records, said}
 use Rattle.dns_signed_reply.specs.declared.plain.PlainReply.{PlainReply}
 use Rattle.dns_signed_reply.specs.declared.step.Step.TheVariants.{End, On}
 

@@ -1,6 +1,6 @@
 -- The reply of a name server to a query with DO, from a zone that is signed with NSEC (RFC 3225; RFC 4035, section 3.1): the reply
 -- without DO, and what is added to it.
-use Rattle.std.specs.Prelude.{ℕ, Bool, false, ◌||◌, ◌&&◌, not, List, [], ◌∷◌, ◌++◌, length, map, nat_le, if◌then◌else◌, Option, Some, None}
+use Rattle.std.specs.Prelude.{ℕ, Bool, false, ◌&&◌, not, List, [], ◌∷◌, ◌++◌, length, map, nat_le, if◌then◌else◌, Option, Some, None}
 use Rattle.std.specs.List.{filter, flat_map, list_any}
 use Rattle.dns_name.specs.Canonical.{same_name}
 use Rattle.dns_base.specs.Msg.{Msg}

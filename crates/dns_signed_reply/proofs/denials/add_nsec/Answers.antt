@@ -1,6 +1,5 @@
 use Rattle.std.proofs.Common.{◌≡◌, ℕ, List, ap, ◌∙◌}
-use Rattle.dns_message.specs.declared.record.Record.{Record}
-use Rattle.dns_signed_reply.specs.SignedReplies.{others, owned_records}
+use Rattle.dns_signed_reply.specs.SignedReplies.{owned_records}
 use Rattle.dns_signed_reply.proofs.NearLaws.{nsec_added}
 use Rattle.dns_signed_reply.proofs.denials.add_nsec.Goals as goal
 

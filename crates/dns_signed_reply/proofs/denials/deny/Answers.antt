@@ -1,10 +1,9 @@
-use Rattle.std.proofs.Common.{◌≡◌, [], ◌∷◌, List, ap, sym, subst, ◌∙◌}
-use Rattle.std.specs.Prelude.{Option}
+use Rattle.std.proofs.Common.{[], ◌∷◌, List, ap, sym, subst, ◌∙◌}
 use Rattle.dns_zone.specs.Owned.{ZoneState}
 use Rattle.dns_zone_tree.proofs.KeptLaws.{on_ok}
 use Rattle.dns_denial.specs.Denials.{IsLastOf}
 use Rattle.dns_denial.specs.Nsecs.{AreSorted, NsecState}
-use Rattle.dns_signed_reply.specs.SignedReplies.{nearest, nsec_records_of}
+use Rattle.dns_signed_reply.specs.SignedReplies.{nsec_records_of}
 use Rattle.dns_signed_reply.proofs.NearLaws.{near_none, near_some}
 use Rattle.dns_signed_reply.proofs.denials.deny.Goals as goal
 

@@ -1,4 +1,4 @@
-use Rattle.std.proofs.Common.{refl, arith}
+use Rattle.std.proofs.Common.{arith}
 use Rattle.dns_signed_reply.proofs.NearLaws.{target_all, target_next}
 use Rattle.dns_signed_reply.proofs.denials.deny_targets.Goals as goal
 

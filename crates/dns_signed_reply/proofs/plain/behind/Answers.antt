@@ -1,4 +1,4 @@
-use Rattle.std.proofs.Common.{◌≡◌, List, ap, ◌∙◌}
+use Rattle.std.proofs.Common.{List, ap, ◌∙◌}
 use Rattle.std.specs.Prelude.{◌||◌}
 use Rattle.dns_message.specs.declared.record.Record.{Record}
 use Rattle.dns_zone_tree.specs.Wildcards.{are_some}

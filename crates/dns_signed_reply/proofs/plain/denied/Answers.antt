@@ -1,5 +1,4 @@
 use Rattle.std.proofs.Common.{◌≡◌, [], ◌∷◌, ◌++◌, ap, ◌∙◌}
-use Rattle.dns_message.specs.declared.record.Record.{Record}
 use Rattle.dns_signed_reply.proofs.StepLaws.{denied_is}
 use Rattle.dns_signed_reply.proofs.plain.denied.Goals as goal
 

@@ -1,4 +1,4 @@
-use Rattle.std.proofs.Common.{◌≡◌, List, length, ap, sym, ◌∙◌}
+use Rattle.std.proofs.Common.{◌≡◌, List, length, ap, ◌∙◌}
 use Rattle.std.specs.Prelude.{◌==◌}
 use Rattle.dns_message.specs.declared.record.Record.{Record}
 use Rattle.dns_zone.specs.ZoneReply.{denied}

@@ -1,7 +1,3 @@
-use Rattle.std.proofs.Common.{◌≡◌, List, ap, ◌∙◌}
-use Rattle.dns_message.specs.declared.record.Record.{Record}
-use Rattle.dns_zone.specs.ZoneReply.{ZoneReply}
-use Rattle.dns_signed_reply.specs.SignedReplies.{denials, ds_of, proved_authority, with_rrsigs}
 use Rattle.dns_signed_reply.proofs.RoomLaws.{signed_is}
 use Rattle.dns_signed_reply.proofs.reply.do_reply.Goals as goal
 

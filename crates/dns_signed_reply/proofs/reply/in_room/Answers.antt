@@ -1,8 +1,7 @@
-use Rattle.std.proofs.Common.{◌≡◌, ◌<◌, ℕ, List, map, take, ap, sym, ◌∙◌, arith}
+use Rattle.std.proofs.Common.{◌<◌, List, map, take, ap, sym, ◌∙◌, arith}
 use Rattle.dns_base.specs.Records.{record_of}
 use Rattle.dns_message.specs.declared.record.Record.{Record}
 use Rattle.dns_zone.specs.ZoneReply.{ZoneReply}
-use Rattle.dns_zone.specs.Owned.{AreLawful}
 use Rattle.dns_signed_reply.specs.PlainReplies.{said}
 use Rattle.dns_signed_reply.proofs.RoomLaws.{bare_kept, built_of, whole_kept}
 use Rattle.dns_signed_reply.proofs.reply.in_room.Goals as goal

@@ -1,6 +1,5 @@
 use Rattle.std.proofs.Common.{◌≡◌, List, ◌++◌, ap, ◌∙◌}
 use Rattle.dns_message.specs.declared.record.Record.{Record}
-use Rattle.dns_zone.specs.Owned.{ZoneState}
 use Rattle.dns_zone_tree.proofs.KeptLaws.{if_ok}
 use Rattle.dns_signed_reply.specs.SignedReplies.{denials, ds_of}
 use Rattle.dns_signed_reply.proofs.reply.proved_authority.Goals as goal

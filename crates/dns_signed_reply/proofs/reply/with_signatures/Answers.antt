@@ -1,4 +1,4 @@
-use Rattle.std.proofs.Common.{◌≡◌, ℕ, List, [], length, take, ap, sym, subst, ◌∙◌, arith}
+use Rattle.std.proofs.Common.{◌≡◌, List, [], length, take, ap, sym, subst, ◌∙◌, arith}
 use Rattle.dns_base.specs.Builds.{Builds, unlimited}
 use Rattle.dns_message.specs.declared.record.Record.{Record}
 use Rattle.dns_route.specs.Routes.{ends_name}

@@ -1,4 +1,4 @@
-use Rattle.std.proofs.Common.{List, [], map, refl, sym, arith}
+use Rattle.std.proofs.Common.{[], map, refl, arith}
 use Rattle.std.proofs.lemmas.Option.{slice_get_read}
 use Rattle.dns_base.specs.Records.{record_of}
 use Rattle.dns_zone.proofs.BuildLaws.{lawful_at}

@@ -1,4 +1,4 @@
-use Rattle.std.proofs.Common.{◌≡◌, ℕ, List, ◌++◌, map, ap, ◌∙◌}
+use Rattle.std.proofs.Common.{ℕ, List, ◌++◌, map, ap, ◌∙◌}
 use Rattle.std.specs.List.{filter}
 use Rattle.dns_base.specs.Records.{data_type}
 use Rattle.dns_message.specs.declared.record.Record.{Record}

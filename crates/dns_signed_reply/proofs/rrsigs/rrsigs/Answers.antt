@@ -1,4 +1,4 @@
-use Rattle.std.proofs.Common.{◌≡◌, List, ◌++◌, take, ap, ◌∙◌, arith}
+use Rattle.std.proofs.Common.{List, ◌++◌, ap, ◌∙◌, arith}
 use Rattle.dns_message.specs.declared.record.Record.{Record}
 use Rattle.dns_signed_reply.proofs.RrsigLaws.{ended, next, none_yet, rest}
 use Rattle.dns_signed_reply.proofs.rrsigs.rrsigs.Goals as goal

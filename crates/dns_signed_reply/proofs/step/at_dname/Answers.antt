@@ -1,5 +1,4 @@
-use Rattle.std.proofs.Common.{◌≡◌, List, Some, None, ap, sym, ◌∙◌}
-use Rattle.dns_message.specs.declared.record.Record.{Record}
+use Rattle.std.proofs.Common.{◌≡◌, Some, None, ap, sym, ◌∙◌}
 use Rattle.dns_zone.specs.Owned.{target}
 use Rattle.dns_zone.specs.Places.{at_places}
 use Rattle.dns_zone_tree.proofs.KeptLaws.{if_ok}

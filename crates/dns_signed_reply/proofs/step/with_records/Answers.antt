@@ -1,4 +1,4 @@
-use Rattle.std.proofs.Common.{List, ap, subst, ◌∙◌}
+use Rattle.std.proofs.Common.{ap, subst, ◌∙◌}
 use Rattle.std.specs.Prelude.{IfOk, Option}
 use Rattle.dns_message.specs.declared.record.Record.{Record}
 use Rattle.dns_name_server.specs.Steps.{own_reply}
