@@ -16,7 +16,7 @@ abbrev pub tree_of : ZoneData → ZoneState
 tree_of (Unsigned z) = z
 tree_of (Signed s) = s.zone
 
--- the NSECs of its chain, where it is signed
+-- the NSECs of its chain, if it is signed
 abbrev pub nsecs_of : ZoneData → Option (List NsecState)
 nsecs_of (Unsigned z) = None
 nsecs_of (Signed s) = Some s.nsecs
