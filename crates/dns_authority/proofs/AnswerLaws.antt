@@ -25,5 +25,5 @@ transfers_are_answered a r q s h =
     ∙ (ap (λ (x : Option Question). by_question a.zones r x) h.question
     ∙ (ap (λ (k : ℕ). if nat_eq k 1 then by_zone r q (asked_zone q a.zones) else refused) h.internet
     ∙ (ap (λ (x : Option ServedState). by_zone r q x) (asked_plain q a.zones h.asked ∙ h.zone)
-    ∙ (ap (λ (b : Bool). if b then transferred s.allowed r q s.zone else once (zone_item o q s.zone)) h.asked
+    ∙ (ap (λ (b : Bool). if b then transferred s.allowed r q s.zone else once (zone_item r q s)) h.asked
     ∙ ap (λ (b : Bool). if b && may_transfer s.allowed r then transfer s.zone o else refused) h.apex))))

@@ -5,5 +5,6 @@ pub use Rattle.dns_transfer.specs.Transfers
 pub use Rattle.dns_kinds.specs.Subnet
 pub mod Networks
 pub mod Streams
+pub mod ServedZones
 pub mod Authorities
 pub mod SentZones

@@ -12,10 +12,11 @@ ghost use Rattle.dns_service.specs.Req.{hint_at_entry};
 ghost use Rattle.dns_service.specs.Transport.{is_stream};
 ghost use Rattle.dns_route.specs.Routes.{ends_name};
 ghost use Rattle.dns_zone.specs.ZoneTurns.{zone_begun};
-ghost use Rattle.dns_authority.specs.Authorities.{and_zone, asked_zone, asks_transfer, authority_answer, by_class, by_question, by_zone, coded, longer, may_transfer, sole_question, transferred, zone_above, zone_for, zone_for_ds};
+ghost use Rattle.dns_authority.specs.Authorities.{and_data, and_zone, asked_zone, asks_transfer, authority_answer, by_class, by_question, by_zone, coded, longer, may_transfer, sole_question, transferred, zone_above, zone_for, zone_for_ds};
 
 use crate::networks::Network;
 use crate::stream::{AuthorityFuture, AuthorityStream};
+use crate::zone_data::ZoneData;
 use crate::zones::ServedZone;
 use dns_base::{AdditionalBuilder, Class, Message, Opcode, PushError, QuestionRef, Rcode, Rtype};
 use dns_service::{Once, OutOfMemory, ReplyStream, Request, Service, ServiceResult};
@@ -52,6 +53,13 @@ impl Authority {
         }
     }
 
+    /// The networks that may transfer a zone that was added without networks of its own.
+    pub fn allowed(&self) -> &[Network]
+        ensures { result.now ≡ self.now.allowed }
+    {
+        self.allowed.as_slice()
+    }
+
     /// Adds a zone after the others, which may be transferred to the authority's networks. A refused call leaves the authority.
     pub fn add(&mut self, alloc: Global, zone: ZoneTree) -> Result<(), OutOfMemory>
         ensures ok { OnOk result (self.new ≡ and_zone self.old.allowed zone self.old) }
@@ -69,6 +77,20 @@ impl Authority {
         allowed: Vec<Network>,
     ) -> Result<(), OutOfMemory>
         ensures ok { OnOk result (self.new ≡ and_zone allowed.items zone self.old) }
+        ensures err { OnErr result (self.new ≡ self.old) }
+    {
+        self.add_data(alloc, ZoneData::Unsigned(zone), allowed)
+    }
+
+    /// Adds a zone after the others, signed or not, which may be transferred to these networks. A refused call leaves the
+    /// authority.
+    pub fn add_data(
+        &mut self,
+        alloc: Global,
+        zone: ZoneData,
+        allowed: Vec<Network>,
+    ) -> Result<(), OutOfMemory>
+        ensures ok { OnOk result (self.new ≡ and_data allowed.items zone self.old) }
         ensures err { OnErr result (self.new ≡ self.old) }
     {
         let served = ServedZone::new(alloc, zone, allowed)?;

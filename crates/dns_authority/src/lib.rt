@@ -2,12 +2,14 @@
 //!
 //! - `Authority` is a service with zones by their apex.
 //! - `add` adds a `ZoneTree` of dns_zone_tree, whose records each have room in a reply. It may be transferred to the
-//!   networks of `Authority::new`, or to those of its own that `add_for` takes.
+//!   networks of `Authority::new`, or to those of its own that `add_for` takes. `add_data` adds a zone that
+//!   is signed or not: the replies of a `SignedZone` of dns_signed_zone to DO have RRSIGs and denials.
 //! - `Network` is the addresses whose first bits are those of an address.
 //! - `AuthorityStream` and `AuthorityFuture` are its replies: one reply, or the replies of a transfer.
 //!
-//! The reply to a question is that of dns_name_server, and the replies of a transfer come from dns_transfer. A refusal is a reply
-//! with a response code. So the layers give it an OPT record and a cookie as they do any other.
+//! The reply to a question is that of dns_name_server, from a signed zone that of dns_signed_reply. The replies of a transfer come
+//! from dns_transfer. A refusal is a reply with a response code. So the layers give it an OPT record and a cookie as they do any
+//! other.
 //!
 //! ```text
 //! question -> no zone, or another class than IN: REFUSED
@@ -32,6 +34,7 @@ mod authority;
 mod laws;
 mod networks;
 mod stream;
+mod zone_data;
 mod zones;
 
 pub use authority::Authority;
@@ -41,3 +44,4 @@ pub use laws::{
 };
 pub use networks::Network;
 pub use stream::{AuthorityFuture, AuthorityStream};
+pub use zone_data::ZoneData;

@@ -5,12 +5,13 @@ ghost use Rattle.std.specs.Arc.{arc_value};
 ghost use Rattle.dns_name.specs.Canonical.{same_name};
 ghost use Rattle.dns_route.specs.Routes.{ends_name};
 ghost use Rattle.dns_authority.specs.Authorities.{kept_bunches, may_transfer, zone_item};
+ghost use Rattle.dns_authority.specs.ServedZones.{nsecs_of, tree_of};
 ghost use Rattle.dns_transfer.specs.Transfers.{bunched, transfer, transfer_records};
 
 use crate::laws::same_names_are_folded;
 use crate::networks::{Network, is_in_any};
-use dns_base::QuestionRef;
-use dns_name_server::name_server_reply;
+use crate::zone_data::{ZoneData, room_over, served_reply};
+use dns_base::{Name, QuestionRef};
 use dns_route::matches_are_suffixes;
 use dns_service::{OutOfMemory, ReplyStream, Request, ServiceResult};
 use dns_transfer::{Bunches, Transfer, message_item};
@@ -23,7 +24,7 @@ use std::sync::Arc;
 /// network.
 #[derive(Drop)]
 pub(crate) struct ServedZone {
-    zone: ZoneTree,
+    zone: ZoneData,
     allowed: Vec<Network>,
     bunches: Option<Arc<Bunches>>,
 }
@@ -32,12 +33,13 @@ impl Model for ServedZone {
     ghost use Rattle.std.specs.Prelude.{◌≡◌, option_map};
     ghost use Rattle.std.specs.Arc.{arc_value};
     ghost use Rattle.dns_authority.specs.Authorities.{ServedState, kept_bunches};
+    ghost use Rattle.dns_authority.specs.ServedZones.{nsecs_of, tree_of};
 
     ghost Value = { ServedState };
 
-    ghost view = { λ s. record { zone = s.zone; allowed = s.allowed.items } };
+    ghost view = { λ s. record { zone = tree_of s.zone; nsecs = nsecs_of s.zone; allowed = s.allowed.items } };
 
-    ghost invariant = { λ s. option_map arc_value s.bunches ≡ kept_bunches s.allowed.items s.zone };
+    ghost invariant = { λ s. option_map arc_value s.bunches ≡ kept_bunches s.allowed.items (tree_of s.zone) };
 }
 
 /// The bunches of a transfer of a zone.
@@ -70,12 +72,12 @@ impl ServedZone {
     /// A zone that may be transferred to these networks.
     pub(crate) fn new(
         alloc: Global,
-        zone: ZoneTree,
+        zone: ZoneData,
         allowed: Vec<Network>,
     ) -> Result<ServedZone, OutOfMemory>
-        ensures { IfOk result (λ s. s ≡ record { zone = zone; allowed = allowed.items }) }
+        ensures { IfOk result (λ s. s ≡ record { zone = tree_of zone; nsecs = nsecs_of zone; allowed = allowed.items }) }
     {
-        let bunches = kept_bunches(alloc, &zone, allowed.as_slice())?;
+        let bunches = kept_bunches(alloc, zone.tree(), allowed.as_slice())?;
         Ok(ServedZone {
             zone,
             allowed,
@@ -83,12 +85,19 @@ impl ServedZone {
         })
     }
 
+    /// The name at which it begins.
+    fn apex(&self) -> &Name
+        ensures { result.now ≡ self.now.zone.apex }
+    {
+        self.zone.tree().apex()
+    }
+
     /// Whether its apex ends the name of a question.
     pub(crate) fn ends(&self, question: &QuestionRef<'_>) -> bool
         ensures { result ≡ ends_name question.now.qname self.now.zone.apex }
     {
         matches_are_suffixes();
-        question.qname().ends_with(&self.zone.apex().for_ref())
+        question.qname().ends_with(&self.apex().for_ref())
     }
 
     /// Whether its apex is the name of a question.
@@ -96,7 +105,7 @@ impl ServedZone {
         ensures { result ≡ same_name question.now.qname self.now.zone.apex }
     {
         same_names_are_folded();
-        question.qname().name_eq(&self.zone.apex().for_ref())
+        question.qname().name_eq(&self.apex().for_ref())
     }
 
     /// Whether it is transferred for a request and a question.
@@ -118,7 +127,7 @@ impl ServedZone {
     pub(crate) fn labels(&self) -> usize
         ensures { result ≡ length self.now.zone.apex }
     {
-        self.zone.apex().label_count() - 1
+        self.apex().label_count() - 1
     }
 
     /// Its reply to a question, as an item.
@@ -129,9 +138,10 @@ impl ServedZone {
         question: &QuestionRef<'_>,
     ) -> Result<ServiceResult, OutOfMemory>
         requires { IsTrue (ends_name question.now.qname self.now.zone.apex) }
-        ensures { IfOk result (λ i. i ≡ zone_item request.now.octets question.now self.now.zone) }
+        ensures { IfOk result (λ i. i ≡ zone_item request.now question.now self.now) }
     {
-        let built = name_server_reply(&self.zone, alloc, request.message(), question);
+        let room = room_over(request.transport_ctx());
+        let built = served_reply(&self.zone, alloc, request.message(), question, room);
         message_item(built, None)
     }
 

@@ -1,26 +1,52 @@
 -- What is made of the text of a zone file (RFC 1035, section 5), and the zones of a generation.
-use Rattle.std.specs.Prelude.{ℕ, ◌≡◌, List, [], ◌∷◌, ◌++◌, length, Option, Some, None, Result, Ok, Err}
+use Rattle.std.specs.Prelude.{ℕ, ◌≡◌, true, false, List, [], ◌∷◌, ◌++◌, length, Option, Some, None, Result, Ok, Err}
 use Rattle.dns_message.specs.declared.record.Record.{Record}
 use Rattle.dns_secondary.specs.Copies.{timers_of}
 use Rattle.dns_secondary.specs.declared.timers.SoaTimers.{SoaTimers}
 use Rattle.dns_zone_file.specs.ZoneFile.{zone_file}
-use Rattle.dns_zone.specs.Owned.{ZoneState}
+use Rattle.std.specs.List.{list_any}
+use Rattle.dns_zone.specs.Owned.{ZoneState, is_of}
 use Rattle.dns_zone_tree.specs.TreeErrors.{Makes, tree_error}
 use Rattle.std.specs.declared.vec.Vec.{Vec}
 use Rattle.std.specs.declared.alloc.Global.{Global}
-use Rattle.dns_authority.specs.Authorities.{AuthorityState, and_zone}
+use Rattle.dns_authority.specs.Authorities.{AuthorityState, and_data}
+use Rattle.dns_authority.specs.ServedZones.{tree_of}
+use Rattle.dns_authority.specs.declared.zone_data.ZoneData.{ZoneData}
+use Rattle.dns_authority.specs.declared.zone_data.ZoneData.TheVariants.{Unsigned, Signed}
+use Rattle.dns_denial.specs.Chains.{IsWhole}
+use Rattle.dns_nsec_data.specs.NsecData.{IsChainOf}
+use Rattle.dns_signed_zone.specs.MadeZones.{Refuses}
 use Rattle.dns_authority.specs.declared.networks.Network.{Network}
 use Rattle.dns_config.specs.declared.prefix.Prefix.{Prefix}
 use Rattle.dns_generation.specs.declared.fault.ZoneTextError.{ZoneTextError}
-use Rattle.dns_generation.specs.declared.fault.ZoneTextError.TheVariants.{Line, NotZone, OutOfMemory}
+use Rattle.dns_generation.specs.declared.fault.ZoneTextError.TheVariants.{Line, NotSigned, NotZone, OutOfMemory}
 use Rattle.dns_generation.specs.declared.generation.ZoneSummary.{ZoneSummary}
 
 abbrev pub network_of : Prefix → Network
 network_of p = record { address = p.address; bits = p.bits }
 
+-- the NSECs of a zone are those of its NSEC records, if it has some, and their chain is whole (RFC 4035, section 2.3)
+abbrev pub IsChainedAs : ZoneData → Type 0
+IsChainedAs (Unsigned z) = list_any (is_of 47) z.records ≡ false
+IsChainedAs (Signed s) = (list_any (is_of 47) s.zone.records ≡ true) × IsChainOf s.zone.records s.nsecs × IsWhole s.zone s.nsecs
+
+-- a zone that is made of an apex and records, signed if NSEC records are among them
+pub record IsZoneOf (z : ZoneState) (d : ZoneData) : Type 0 where
+  pub tree : tree_of d ≡ z
+  pub zone : tree_error z.apex z.records ≡ None
+  pub chained : IsChainedAs d
+
+-- why there is none
+abbrev pub Denies : ZoneState → ZoneTextError → Type 0
+Denies z (Line line reason) = ⊥
+Denies z (NotZone error) = Makes (tree_error z.apex z.records) z (Err error)
+Denies z (NotSigned error) = Refuses z error
+Denies z OutOfMemory = Unit {0}
+
 -- the zone whose apex is the file's origin and whose records are those that the file writes
-abbrev pub IsWritten : List (List ℕ) → List ℕ → ZoneState → Type 0
-IsWritten apex text z = (z.apex ≡ apex) × (zone_file apex text ≡ Ok z.records) × (tree_error apex z.records ≡ None)
+abbrev pub IsWritten : List (List ℕ) → List ℕ → ZoneData → Type 0
+IsWritten apex text d = (records : List Record) × (zone_file apex text ≡ Ok records)
+    × IsZoneOf (record { apex = apex; records = records }) d
 
 -- why a zone file isn't served: the line that is refused, or why its records are no zone
 abbrev pub HasFault : List (List ℕ) → List ℕ → ZoneTextError → Type 0
@@ -28,6 +54,9 @@ HasFault apex text (Line line reason) = zone_file apex text ≡ Err (line, reaso
 HasFault apex text (NotZone error) =
     (records : List Record) × (zone_file apex text ≡ Ok records)
     × Makes (tree_error apex records) (record { apex = apex; records = records }) (Err error)
+HasFault apex text (NotSigned error) =
+    (records : List Record) × (zone_file apex text ≡ Ok records)
+    × Refuses (record { apex = apex; records = records }) error
 HasFault apex text OutOfMemory = Unit {0}
 
 -- what the first SOA record says of copies (RFC 1035, section 3.3.13)
@@ -56,11 +85,11 @@ networks_or None all = all
 networks_or (Some own) all = own.items
 
 -- a zone that these networks may transfer is after the others
-abbrev pub with_zone : List Network → ZoneState → GenerationState → GenerationState
-with_zone allowed z g = record g {
-  authority = and_zone allowed z g.authority;
-  served = g.served ++ z.apex ∷ [];
-  summaries = g.summaries ++ summary_of z.records ∷ [];
+abbrev pub with_zone : List Network → ZoneData → GenerationState → GenerationState
+with_zone allowed d g = record g {
+  authority = and_data allowed d g.authority;
+  served = g.served ++ (tree_of d).apex ∷ [];
+  summaries = g.summaries ++ summary_of (tree_of d).records ∷ [];
 }
 
 -- a zone without data is after the others
@@ -72,6 +101,6 @@ with_withheld apex g = record g {
 
 -- the zone that a file writes, which these networks may transfer, is after the others
 pub record AddsFile (apex : List (List ℕ)) (text : List ℕ) (allowed : List Network) (a b : GenerationState) : Type 0 where
-  pub zone : ZoneState
+  pub zone : ZoneData
   pub written : IsWritten apex text zone
   pub added : b ≡ with_zone allowed zone a

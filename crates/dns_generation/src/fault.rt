@@ -3,6 +3,7 @@
 ghost use Rattle.std.specs.Prelude.{◌≡◌};
 
 use dns_name::OutOfMemory;
+use dns_signed_zone::SignedZoneError;
 use dns_zone_file::EntryReason;
 use dns_zone_tree::TreeError;
 use std::alloc::AllocError;
@@ -14,6 +15,8 @@ pub enum ZoneTextError {
     Line { line: u64, reason: EntryReason },
     /// Its records are no zone.
     NotZone(TreeError),
+    /// It has NSEC records, and they are no chain that is whole.
+    NotSigned(SignedZoneError),
     OutOfMemory,
 }
 

@@ -1,19 +1,19 @@
 //! Zones that were read and judged.
 
 ghost use Rattle.std.specs.Prelude.{◌≡◌, ◌<◌, ◌++◌, ◌∷◌, [], IfErr, OnErr, OnOk, vec_capacity, vec_len};
-ghost use Rattle.dns_authority.specs.Authorities.{and_zone, authority_answer};
+ghost use Rattle.dns_authority.specs.Authorities.{and_data, authority_answer};
+ghost use Rattle.dns_authority.specs.ServedZones.{tree_of};
 ghost use Rattle.dns_secondary_service.specs.Withheld.{withholding};
 ghost use Rattle.dns_generation.specs.Generations.{AddsFile, HasFault, networks_or, summary_of, timers_among, with_withheld, with_zone};
 
 use crate::fault::ZoneTextError;
 use crate::zones::zone_of;
-use dns_authority::{Authority, Network};
+use dns_authority::{Authority, Network, ZoneData};
 use dns_message::Record;
 use dns_name::{Name, OutOfMemory};
 use dns_secondary::SoaTimers;
 use dns_secondary_service::Withholding;
 use dns_service::Service;
-use dns_zone_tree::ZoneTree;
 use std::alloc::Global;
 use std::marker::Model;
 
@@ -98,19 +98,28 @@ fn push_both(
     summaries.push_reserved(summary);
 }
 
+/// Adds a zone to an authority, which may be transferred to the authority's networks.
+fn add_shared(authority: &mut Authority, alloc: Global, zone: ZoneData) -> Result<(), OutOfMemory>
+    ensures ok { OnOk result (authority.new ≡ and_data authority.old.allowed zone authority.old) }
+    ensures err { OnErr result (authority.new ≡ authority.old) }
+{
+    let allowed = Vec::from_slice(alloc, authority.allowed())?;
+    authority.add_data(alloc, zone, allowed)
+}
+
 /// Adds a zone to an authority, which may be transferred to its own networks, or to those of the authority if it has none.
 fn add_zone(
     authority: &mut Authority,
     alloc: Global,
-    zone: ZoneTree,
+    zone: ZoneData,
     own: Option<Vec<Network>>,
 ) -> Result<(), OutOfMemory>
-    ensures ok { OnOk result (authority.new ≡ and_zone (networks_or own authority.old.allowed) zone authority.old) }
+    ensures ok { OnOk result (authority.new ≡ and_data (networks_or own authority.old.allowed) zone authority.old) }
     ensures err { OnErr result (authority.new ≡ authority.old) }
 {
     match own {
-        Some(allowed) => authority.add_for(alloc, zone, allowed),
-        None => authority.add(alloc, zone),
+        Some(allowed) => authority.add_data(alloc, zone, allowed),
+        None => add_shared(authority, alloc, zone),
     }
 }
 
@@ -137,12 +146,12 @@ impl Generation {
         &mut self,
         alloc: Global,
         apex: Name,
-        zone: ZoneTree,
+        zone: ZoneData,
         own: Option<Vec<Network>>,
         summary: ZoneSummary,
     ) -> Result<(), OutOfMemory>
-        requires apex { apex ≡ zone.apex }
-        requires summary { summary ≡ summary_of zone.records }
+        requires apex { apex ≡ (tree_of zone).apex }
+        requires summary { summary ≡ summary_of (tree_of zone).records }
         ensures ok { OnOk result (self.new ≡ with_zone (networks_or own self.old.authority.allowed) zone self.old) }
         ensures err { OnErr result (self.new ≡ self.old) }
     {
@@ -166,7 +175,7 @@ impl Generation {
     {
         let zone = zone_of(alloc, apex, text)?;
         let apex = apex.try_clone(alloc)?;
-        let summary = summary_of(zone.records());
+        let summary = summary_of(zone.tree().records());
         self.put(alloc, apex, zone, own, summary)?;
         Ok(())
     }

@@ -4,6 +4,7 @@
 //!   networks of its own that may transfer it. `withhold` adds one that has no data, as a secondary's before its first
 //!   transfer. `into_service` gives what answers.
 //! - `ZoneTextError` says why a text isn't served: a line and its reason, or why its records are no zone.
+//! - A zone with NSEC records is a signed one (RFC 4035, section 2.3). It is served with its chain, or refused if that isn't whole.
 //! - `ZoneSummary` is what is said of a zone: its SOA record and how many records it has.
 //! - `networks` are those of a configuration to which zones are transferred.
 //!
@@ -17,6 +18,8 @@
 //!
 //! - `add` puts exactly the zone after the others that the file's text writes, if it is one. Else it says the first
 //!   fault and leaves the generation.
+//! - That zone is a signed one exactly if NSEC records are among its records. Its NSECs are those of these records, and their
+//!   chain is whole.
 //! - What answers is the authority over the zones that were added, after those that were withheld.
 //!
 //! # What a body could still get away with

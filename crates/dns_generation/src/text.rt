@@ -1,6 +1,9 @@
 //! Why a line of a zone file is refused, in words.
 
 use crate::fault::ZoneTextError;
+use dns_denial::ChainError;
+use dns_nsec_data::NsecError;
+use dns_signed_zone::SignedZoneError;
 use dns_zone_file::EntryReason;
 use dns_zone_tree::TreeError;
 use std::error::Error;
@@ -65,6 +68,50 @@ fn write_cause<W: fmt::Write>(error: TreeError, f: &mut fmt::Formatter<W>) -> fm
     }
 }
 
+/// Why NSEC records are no chain that is whole. Places in the chain are in canonical order, counted from 0.
+fn write_signed_cause<W: fmt::Write>(
+    error: SignedZoneError,
+    f: &mut fmt::Formatter<W>,
+) -> fmt::Result {
+    match error {
+        SignedZoneError::Tree(error) => write_cause(error, f),
+        SignedZoneError::Nsec(error) => write_nsec_cause(error, f),
+        SignedZoneError::Chain(error) => write_chain_cause(error, f),
+    }
+}
+
+/// Why NSEC records are no chain.
+fn write_nsec_cause<W: fmt::Write>(error: NsecError, f: &mut fmt::Formatter<W>) -> fmt::Result {
+    match error {
+        NsecError::Malformed(place) => {
+            write!(
+                f,
+                "no signed zone: record {place} has no data of an NSEC record"
+            )
+        }
+        NsecError::Twice => f.write_str("no signed zone: two NSEC records have one owner"),
+        NsecError::OutOfMemory => f.write_str("out of memory"),
+    }
+}
+
+/// Why a chain isn't whole.
+fn write_chain_cause<W: fmt::Write>(error: ChainError, f: &mut fmt::Formatter<W>) -> fmt::Result {
+    match error {
+        ChainError::Unlisted(place) => {
+            write!(f, "no signed zone: no NSEC record lists record {place}")
+        }
+        ChainError::Unfounded(place) => write!(
+            f,
+            "no signed zone: NSEC {place} has no place in the chain, or lists a type that isn't there"
+        ),
+        ChainError::Unlinked(place) => write!(
+            f,
+            "no signed zone: NSEC {place} doesn't lead to the next one"
+        ),
+        ChainError::OutOfMemory => f.write_str("out of memory"),
+    }
+}
+
 /// The line and its reason; or what the records are no zone for.
 impl fmt::Display for ZoneTextError {
     fn fmt<W: fmt::Write>(&self, f: &mut fmt::Formatter<W>) -> fmt::Result {
@@ -74,6 +121,7 @@ impl fmt::Display for ZoneTextError {
                 write!(f, "line {line}: {said}")
             }
             ZoneTextError::NotZone(error) => write_cause(*error, f),
+            ZoneTextError::NotSigned(error) => write_signed_cause(*error, f),
             ZoneTextError::OutOfMemory => f.write_str("out of memory"),
         }
     }

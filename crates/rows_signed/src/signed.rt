@@ -3,7 +3,7 @@
 ghost use Rattle.std.specs.Prelude.{◌≡◌, None};
 ghost use Rattle.dns_zone_tree.specs.TreeErrors.{tree_error};
 
-use crate::nsec_rows::{secured, types_of_row};
+use crate::nsec_rows::{replied, secured, types_of_row};
 use crate::questions::asked;
 use crate::zones::next_records;
 use dns_denial::{Chain, Hashing, Nsec};
@@ -19,6 +19,7 @@ impl Calls for Signed {
     fn answer(&self, call: &str, row: &mut Row<'_>) -> Result<(), RowError> {
         match call {
             "nsec_hash" => hashed(row),
+            "replied" => replied(row),
             "secured" => secured(row),
             "signed" => zone_of_row(row),
             "types" => types_of_row(row),

@@ -1,9 +1,11 @@
-use Rattle.std.proofs.Common.{◌≡◌, ℕ, List, subst}
-use Rattle.std.specs.Prelude.{Err}
-use Rattle.dns_zone_tree.specs.TreeErrors.{Makes, tree_error}
+use Rattle.std.proofs.Common.{◌≡◌, ℕ, List, sym, subst}
+use Rattle.std.specs.Prelude.{IfErr, IfOk}
+use Rattle.dns_generation.specs.Generations.{Denies, HasFault, IsWritten, IsZoneOf}
+use Rattle.dns_generation.proofs.ZoneLaws.{faults, writes}
 use Rattle.dns_generation.proofs.zones.zone_of.Goals as goal
 
-pub returns-in-Err-clause-fault : goal.returns-in-Err-clause-fault
-returns-in-Err-clause-fault c =
-    let records = c.in_ok-records.records.items in
-    (records, c.in_ok-records.ensures.ok, subst (λ (a : List (List ℕ)). Makes (tree_error a records) (record { apex = a; records = records }) (Err c.in-Err.error)) c.in_ok-apex.ensures c.in-Err.ensures)
+pub returns-clause-ok : goal.returns-clause-ok
+returns-clause-ok c = writes c.args.apex.now c.args.text.now c.in_ok-apex.apex c.in_ok-records.records.items c.made.result c.in_ok-apex.ensures c.in_ok-records.ensures.ok c.made.ensures.ok
+
+pub returns-clause-fault : goal.returns-clause-fault
+returns-clause-fault c = faults c.args.apex.now c.args.text.now c.in_ok-apex.apex c.in_ok-records.records.items c.made.result c.in_ok-apex.ensures c.in_ok-records.ensures.ok c.made.ensures.fault
