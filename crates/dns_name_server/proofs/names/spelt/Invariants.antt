@@ -1,5 +1,5 @@
 use Rattle.std.proofs.Common.{◌≡◌, ◌++◌, length}
-use Rattle.dns_name.specs.Labels.{spell, AreLabels}
+use Rattle.dns_name.specs.Labels.{spell}
 use Rattle.dns_name_server.proofs.names.spelt.Given as goal
 
 abbrev pub invariant-labels : goal.invariant-labels
