@@ -88,7 +88,7 @@ denied_is z given authority negative code s e =
 
 -- ---- answers that are pushed straight into a reply
 
--- the record of a place, where it is of a type or not
+-- the record of a place, if it is of a type or not
 pub kind_pushed : (b new : Built) (rs : List Record) (r : Record) (x : Result ⊤ PushError) → rs ≡ r ∷ [] → Pushes b new (with_record Answer b (record_of r)) x → Becomes new (with_records Answer b (map record_of rs)) x
 kind_pushed b new rs r x e h =
     subst (λ (l : List Record). Becomes new (with_records Answer b (map record_of l)) x) (sym e) (becomes_of b new (with_record Answer b (record_of r)) x h)
@@ -98,7 +98,7 @@ no_kind b rs e k =
     let i : b ≡ with_records Answer b (map record_of rs) = sym (ap (λ (l : List Record). with_records Answer b (map record_of l)) e ∙ no_records Answer b) in
     (i, subst KeepsLimit i k)
 
--- some records, and those behind them
+-- some records, and those after them
 module _ (b : Built) (rs : List Record) (xs ys : List Record) (all : Built) (split : rs ≡ xs ++ ys) (same : with_records Answer b (map record_of rs) ≡ all) where
   parted : with_records Answer b (map record_of xs ++ map record_of ys) ≡ all
   parted = ap (with_records Answer b) (sym (ap (map record_of) split ∙ map-append record_of xs ys)) ∙ same

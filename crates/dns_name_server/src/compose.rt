@@ -185,7 +185,7 @@ fn denied(
     )
 }
 
-/// Adds the record at a place to the answers of a reply, where it is of a type.
+/// Adds the record at a place to the answers of a reply, if it is of a type.
 fn answer_kind(
     alloc: Global,
     records: &[Record],

@@ -8,7 +8,7 @@ use arrayvec::ArrayVec;
 use dns_name::{Labels, Name, NameRef, OutOfMemory};
 use std::alloc::Global;
 
-/// Appends a label behind its length.
+/// Appends a label after its length.
 fn push_label(label: &[u8], octets: &mut ArrayVec<u8, 255>)
     requires { array_vec_len octets.old + length label.now + 1 ≤ 255 }
     ensures { octets.new.items ≡ octets.old.items ++ (length label.now ∷ label.now) }

@@ -41,7 +41,7 @@ fn is_answered(zone: &ZoneTree, seen: &[Name], name: &Name) -> bool
     name.ends_with(&zone.apex().for_ref()) && !is_among(name, seen)
 }
 
-/// Gives the aliases behind names that were asked for, and says what they end with.
+/// Gives the aliases after names that were asked for, and says what they end with.
 fn chain_behind<'a>(
     zone: &'a ZoneTree,
     alloc: Global,
