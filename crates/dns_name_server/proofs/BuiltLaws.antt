@@ -88,7 +88,7 @@ denied_is z given authority negative code s e =
 
 -- ---- answers that are pushed straight into a reply
 
--- the record of a place, if it is of a type or not
+-- the record at a place is pushed if it is of a type
 pub kind_pushed : (b new : Built) (rs : List Record) (r : Record) (x : Result ⊤ PushError) → rs ≡ r ∷ [] → Pushes b new (with_record Answer b (record_of r)) x → Becomes new (with_records Answer b (map record_of rs)) x
 kind_pushed b new rs r x e h =
     subst (λ (l : List Record). Becomes new (with_records Answer b (map record_of l)) x) (sym e) (becomes_of b new (with_record Answer b (record_of r)) x h)

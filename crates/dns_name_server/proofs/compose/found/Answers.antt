@@ -21,8 +21,8 @@ returns-in_err-push_records c =
     let rs = at_places c.args.zone.now.records (kind_places c.args.rtype c.args.kinds.now) in
     rw (p.1, p.2) (given_refused c.args.query.now c.args.given.now rs c.in_ok-reply.reply c.in_ok-reply.ensures.0 c.push_records.new.self c.in_err-push_records.field-0.0 c.in_err-push_records.ensures)
 
-pub answer_kinds-requires-short : goal.answer_kinds-requires-short
-answer_kinds-requires-short c = subst KeepsLimit (sym c.in_ok-push_records.ensures.0) c.in_ok-push_records.ensures.1
+pub answer_kinds-requires-clause-short : goal.answer_kinds-requires-clause-short
+answer_kinds-requires-clause-short c = subst KeepsLimit (sym c.in_ok-push_records.ensures.0) c.in_ok-push_records.ensures.1
 
 pub returns-in_err-answer_kinds : goal.returns-in_err-answer_kinds
 returns-in_err-answer_kinds c =
