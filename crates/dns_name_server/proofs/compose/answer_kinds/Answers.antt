@@ -1,4 +1,4 @@
-use Rattle.std.proofs.Common.{map, drop, sym, subst, ◌∙◌, arith}
+use Rattle.std.proofs.Common.{◌+◌, map, drop, sym, subst, arith}
 use Rattle.std.proofs.lemmas.Result.{err_from_is_err_and}
 use Rattle.dns_base.specs.declared.draft.Section.TheVariants.{Answer}
 use Rattle.dns_base.specs.Builds.{KeepsLimit, with_records}

@@ -6,6 +6,7 @@ use Rattle.dns_zone_tree.specs.Regions.{asked_region}
 use Rattle.dns_name_server.specs.NameServerReplies.{by_region, reply_from}
 use Rattle.dns_name_server.specs.Steps.{StepsTo}
 use Rattle.dns_name_server.specs.declared.step.Step.{Step}
+use Rattle.dns_name_server.specs.declared.step.Step.TheVariants.{On}
 use Rattle.dns_name_server.proofs.ChainLaws.{answered_within, chain_ends, chain_first, chain_next, first_answered}
 use Rattle.dns_name_server.proofs.reply.chain_from.Goals as goal
 
@@ -37,6 +38,6 @@ chain_behind-requires c =
     let e = c.to_int.ensures.value ∙ c.qtype.ensures in
     let s = chain_first z q.qtype q c.args.given.now n (λ _. q.qtype) c.requires.name c.requires.none in
     let h = known z t c.args.given.now c.step_of.new.given c.in_ok-found.found _ n c.in_ok-found.ensures c.in-On.is in
-    let k = subst (λ (u : ℕ). StepsTo z c.args.given.now c.step_of.new.given _ (λ go. by_region z go u n (asked_region z u n))) e h in
+    let k = subst (λ (u : ℕ). StepsTo z c.args.given.now c.step_of.new.given (On c.in-On.next) (λ go. by_region z go u n (asked_region z u n))) e h in
     let m : c.push.new.self.items ≡ [] ++ n ∷ [] = grind (arith, common_steps) in
     chain_next z q.qtype q c.args.given.now 128 [] n s (omega arith) (first_answered z q n c.requires.name c.requires.within) c.step_of.new.given c.in-On.next c.push.new.self.items m k
