@@ -1,8 +1,6 @@
-use Rattle.std.proofs.Common.{◌+◌, map, drop, sym, subst, arith}
+use Rattle.std.proofs.Common.{◌+◌, drop, sym, subst, arith}
 use Rattle.std.proofs.lemmas.Result.{err_from_is_err_and}
-use Rattle.dns_base.specs.declared.draft.Section.TheVariants.{Answer}
-use Rattle.dns_base.specs.Builds.{KeepsLimit, with_records}
-use Rattle.dns_base.specs.Records.{record_of}
+use Rattle.dns_base.specs.Builds.{KeepsLimit}
 use Rattle.dns_zone.specs.Places.{at_places}
 use Rattle.dns_zone_tree.specs.Kinds.{places_of}
 use Rattle.dns_name_server.proofs.BuiltLaws.{kinds_done, kinds_pushed, kinds_refused}

@@ -1,4 +1,4 @@
-use Rattle.std.proofs.Common.{◌≡◌, List, ℕ, ap, subst, sym, ◌∙◌}
+use Rattle.std.proofs.Common.{ap, subst, sym, ◌∙◌}
 use Rattle.dns_name.specs.Labels.{IsName, spell}
 use Rattle.dns_name_server.proofs.FrontLaws.{spelt_named, spelt_never}
 use Rattle.dns_name_server.proofs.reply.chain.Goals as goal

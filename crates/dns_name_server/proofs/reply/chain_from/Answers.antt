@@ -1,9 +1,9 @@
-use Rattle.std.proofs.Common.{◌≡◌, ◌<◌, ℕ, List, [], ◌∷◌, ◌++◌, sym, subst, ◌∙◌, arith}
+use Rattle.std.proofs.Common.{◌≡◌, ℕ, List, [], ◌∷◌, ◌++◌, subst, ◌∙◌, arith}
 use Rattle.std.proofs.lemmas.Grind.{common_steps}
 use Rattle.dns_base.specs.Msg.{ResourceRecord}
 use Rattle.dns_zone.specs.Owned.{ZoneState}
 use Rattle.dns_zone_tree.specs.Regions.{asked_region}
-use Rattle.dns_name_server.specs.NameServerReplies.{by_region, reply_from}
+use Rattle.dns_name_server.specs.NameServerReplies.{by_region}
 use Rattle.dns_name_server.specs.Steps.{StepsTo}
 use Rattle.dns_name_server.specs.declared.step.Step.{Step}
 use Rattle.dns_name_server.specs.declared.step.Step.TheVariants.{On}
