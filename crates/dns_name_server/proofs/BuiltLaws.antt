@@ -1,20 +1,24 @@
 -- Messages that are built of records in wire form.
-use Rattle.std.proofs.Common.{◌≡◌, ℕ, Bool, true, false, List, [], ◌∷◌, ◌++◌, map, Err, refl, ap, sym, subst, ◌∙◌, arith, append-nil}
-use Rattle.std.specs.Prelude.{◌||◌, not, ◌↔◌, IsTrue}
+use Rattle.std.proofs.Common.{◌≡◌, ◌≤◌, ℕ, Bool, true, false, List, [], ◌∷◌, ◌++◌, length, drop, map, Err, refl, ap, sym, subst, ◌∙◌, arith, append-nil}
+use Rattle.std.specs.Prelude.{⊤, ◌||◌, not, ◌↔◌, IsTrue, Result}
 use Rattle.std.specs.List.{filter}
+use Rattle.std.proofs.lemmas.List.{drop_all, map-append}
 use Rattle.dns_base.specs.declared.draft.Section.TheVariants.{Answer, Authority, Additional}
 use Rattle.dns_base.specs.declared.error.PushError.{PushError}
 use Rattle.dns_base.specs.declared.error.PushError.TheVariants.{ShortBuf, OutOfMemory as NoMemory}
-use Rattle.dns_base.specs.Built.{Built, PassesLimit, Pushes}
-use Rattle.dns_base.specs.Builds.{Builds, unlimited, with_records}
+use Rattle.dns_base.specs.Built.{Built, PassesLimit, Pushes, with_record}
+use Rattle.dns_base.specs.Builds.{Becomes, Builds, KeepsLimit, unlimited, with_records}
 use Rattle.dns_base.specs.Msg.{Msg, ResourceRecord}
 use Rattle.dns_base.specs.Records.{record_of}
-use Rattle.dns_base.proofs.BuildLaws.{wire_size}
+use Rattle.dns_base.proofs.BuildLaws.{no_records, wire_size}
 use Rattle.dns_message.specs.declared.record.Record.{Record}
 use Rattle.dns_zone.specs.Owned.{ZoneState, is_of}
+use Rattle.dns_zone.specs.Places.{at_places}
 use Rattle.dns_zone.specs.ZoneReply.{authoritative, denied, negative_soa, referral}
 use Rattle.dns_zone.specs.ZoneTurns.{zone_begun}
-use Rattle.dns_zone.proofs.BuildLaws.{more_refused}
+use Rattle.dns_zone.proofs.BuildLaws.{becomes_of, more_refused, records_then, then_refused}
+use Rattle.dns_zone_tree.specs.Kinds.{places_of}
+use Rattle.dns_zone_tree.specs.declared.kinds.TypedPlace.{TypedPlace}
 use Rattle.dns_name_server.specs.Steps.{WireReply, are_any, behind, wire_message, wired}
 
 -- what has no room
@@ -81,3 +85,61 @@ pub denied_is : (z : ZoneState) (given authority : List ResourceRecord) (negativ
 denied_is z given authority negative code s e =
     let f : Bool → List ResourceRecord → List ResourceRecord → WireReply = λ b l m. record { aa = b; rcode = code; answers = l; authority = m; additional = [] } in
     (λ i. f (or_true (are_any given) i) (append-nil given i) ((ap (map record_of) s ∙ sym e) i))
+
+-- ---- answers that are pushed straight into a reply
+
+-- the record at a place is pushed if it is of a type
+pub kind_pushed : (b new : Built) (rs : List Record) (r : Record) (x : Result ⊤ PushError) → rs ≡ r ∷ [] → Pushes b new (with_record Answer b (record_of r)) x → Becomes new (with_records Answer b (map record_of rs)) x
+kind_pushed b new rs r x e h =
+    subst (λ (l : List Record). Becomes new (with_records Answer b (map record_of l)) x) (sym e) (becomes_of b new (with_record Answer b (record_of r)) x h)
+
+pub no_kind : (b : Built) (rs : List Record) → rs ≡ [] → KeepsLimit b → (b ≡ with_records Answer b (map record_of rs)) × KeepsLimit (with_records Answer b (map record_of rs))
+no_kind b rs e k =
+    let i : b ≡ with_records Answer b (map record_of rs) = sym (ap (λ (l : List Record). with_records Answer b (map record_of l)) e ∙ no_records Answer b) in
+    (i, subst KeepsLimit i k)
+
+-- some records, and those after them
+module _ (b : Built) (rs : List Record) (xs ys : List Record) (all : Built) (split : rs ≡ xs ++ ys) (same : with_records Answer b (map record_of rs) ≡ all) where
+  parted : with_records Answer b (map record_of xs ++ map record_of ys) ≡ all
+  parted = ap (with_records Answer b) (sym (ap (map record_of) split ∙ map-append record_of xs ys)) ∙ same
+
+  pub kinds_pushed : (new : Built) → new ≡ with_records Answer b (map record_of xs) → with_records Answer new (map record_of ys) ≡ all
+  kinds_pushed new e = ap (λ (k : Built). with_records Answer k (map record_of ys)) e ∙ (records_then Answer b (map record_of xs) (map record_of ys) ∙ parted)
+
+  pub kinds_refused : (new new' : Built) (e : PushError) → Becomes new (with_records Answer b (map record_of xs)) (Err e) → Becomes new' all (Err e)
+  kinds_refused new new' e h = then_refused Answer b new new' (map record_of xs) (map record_of ys) all e h parted
+
+pub kinds_done : (b all : Built) (rs : List Record) (t : ℕ) (ks : List TypedPlace) (i : ℕ) → length ks ≤ i → with_records Answer b (map record_of (at_places rs (places_of t (drop i ks)))) ≡ all → KeepsLimit b → (b ≡ all) × KeepsLimit all
+kinds_done b all rs t ks i l e k =
+    let s : b ≡ all = sym (ap (λ (x : List TypedPlace). with_records Answer b (map record_of (at_places rs (places_of t x)))) (drop_all i ks l) ∙ no_records Answer b) ∙ e in
+    (s, subst KeepsLimit s k)
+
+-- the answers that are given in a reply that is begun, and then others
+refused : (new more : Built) (e : PushError) → Becomes new more (Err e) → Builds more (Err e)
+refused new more ShortBuf h = h
+refused new more NoMemory h = tt
+
+pub found_begun : (o : List ℕ) (given : List ResourceRecord) (rs : List Record) (e : PushError) → Builds (unlimited (zone_begun o 0 true)) (Err e) → Builds (unlimited (wire_message o (behind given (wired (authoritative rs))))) (Err e)
+found_begun o given rs e h =
+    let r : WireReply = record { aa = true; rcode = 0; answers = given ++ map record_of rs; authority = []; additional = [] } in
+    subst (λ (w : WireReply). Builds (unlimited (wire_message o w)) (Err e)) (sym (answers_then given rs (given ++ map record_of rs) refl)) (begun_refused o r e h)
+
+module _ (o : List ℕ) (given : List ResourceRecord) (rs : List Record) (b : Built) (begun : b ≡ unlimited (zone_begun o 0 true)) where
+  abbrev found_message : Msg
+  found_message = wire_message o (behind given (wired (authoritative rs)))
+
+  found_as : with_records Answer b (given ++ map record_of rs) ≡ unlimited found_message
+  found_as = ap (λ (k : Built). with_records Answer k (given ++ map record_of rs)) begun ∙ ap (λ (w : WireReply). unlimited (wire_message o w)) (sym (answers_then given rs (given ++ map record_of rs) refl))
+
+  pub given_refused : (new : Built) (e : PushError) → Pushes b new (with_records Answer b given) (Err e) → Builds (unlimited found_message) (Err e)
+  given_refused new e h = refused new (unlimited found_message) e (then_refused Answer b new new given (map record_of rs) (unlimited found_message) e (becomes_of b new (with_records Answer b given) (Err e) h) found_as)
+
+  module _ (b2 new : Built) (all : List ResourceRecord) (pushed : b2 ≡ with_records Answer b given) (is : all ≡ map record_of rs) where
+    found_then : with_records Answer b2 all ≡ unlimited found_message
+    found_then = (λ i. with_records Answer (pushed i) (is i)) ∙ (records_then Answer b given (map record_of rs) ∙ found_as)
+
+    pub own_refused : (e : PushError) → Becomes new (with_records Answer b2 all) (Err e) → Builds (unlimited found_message) (Err e)
+    own_refused e h = refused new (unlimited found_message) e (subst (λ (k : Built). Becomes new k (Err e)) found_then h)
+
+    pub own_given : (last : Built) → last ≡ new → (new ≡ with_records Answer b2 all) × KeepsLimit (with_records Answer b2 all) → (last ≡ unlimited found_message) × KeepsLimit (unlimited found_message)
+    own_given last e h = (e ∙ (h.0 ∙ found_then), subst KeepsLimit found_then h.1)

@@ -39,7 +39,7 @@ some_spelt (l ∷ ls) = omega arith
 not_less : (n : ℕ) → nat_lt n n ≡ false
 not_less n = grind (arith, nat_tests)
 
-reads : (ls : List (List ℕ)) → IsName ls → uncompressed (spell ls) ≡ Ok ls
+pub reads : (ls : List (List ℕ)) → IsName ls → uncompressed (spell ls) ≡ Ok ls
 reads ls n =
     let m = length (spell ls) in
     ap (read_whole (spell ls)) (spelt_alone ls n) ∙ ap (λ (b : Bool). if b then Err (Form Trailing) else Ok ls) (not_less m)
@@ -72,3 +72,10 @@ module _ (k : ℕ) (name : List (List ℕ)) (o b : List ℕ) (e : o ≡ spell na
 
   pub front_never : (front : List ℕ) (x : ParseError) → IsName name → front ≡ take (length o - length b) o ++ 0 ∷ [] → Err x ≡ uncompressed front → ⊥
   front_never front x h g r = let s : Err x ≡ Ok (take k name) = r ∙ front_reads front h g in absurd (cc)
+
+-- the octets of a name read as that name
+pub spelt_named : (ls n : List (List ℕ)) (o : List ℕ) → IsName ls → o ≡ spell ls → Ok n ≡ uncompressed o → n ≡ ls
+spelt_named ls n o h e r = let s : Ok n ≡ Ok ls = r ∙ (ap uncompressed e ∙ reads ls h) in cc
+
+pub spelt_never : (ls : List (List ℕ)) (o : List ℕ) (x : ParseError) → IsName ls → o ≡ spell ls → Err x ≡ uncompressed o → ⊥
+spelt_never ls o x h e r = let s : Err x ≡ Ok ls = r ∙ (ap uncompressed e ∙ reads ls h) in absurd (cc)

@@ -51,7 +51,7 @@ answers_alone old rs =
 
 module _ (rs : List Record) (t : ℕ) (ks : List TypedPlace) (i : ℕ) (d : TypedPlace) (h : i < length ks) where
   -- the records from a place on
-  records_ahead : at_places rs (places_of t (drop i ks)) ≡ at_places rs (places_of t (get_or ks i d ∷ [])) ++ at_places rs (places_of t (drop (i + 1) ks))
+  pub records_ahead : at_places rs (places_of t (drop i ks)) ≡ at_places rs (places_of t (get_or ks i d ∷ [])) ++ at_places rs (places_of t (drop (i + 1) ks))
   records_ahead = ap (at_places rs) (places_ahead t ks i d h) ∙ filter_map-append (slice_get rs) (places_of t (get_or ks i d ∷ [])) (places_of t (drop (i + 1) ks))
 
   pub head_found : (r : Record) → at_places rs (places_of t (get_or ks i d ∷ [])) ≡ r ∷ [] → Some r ≡ head_of (at_places rs (places_of t (drop i ks)))

@@ -1,7 +1,8 @@
 //! Replies as they are built.
 
 ghost use Rattle.std.specs.Prelude.{◌≡◌, ◌++◌, ◌∷◌, [], true, map, if◌then◌else◌, IfOk, OnOk};
-ghost use Rattle.dns_base.specs.Builds.{Builds, unlimited};
+ghost use Rattle.dns_base.specs.declared.draft.Section.TheVariants.{Answer};
+ghost use Rattle.dns_base.specs.Builds.{Becomes, Builds, KeepsLimit, unlimited, with_records};
 ghost use Rattle.dns_base.specs.Records.{record_of};
 ghost use Rattle.dns_zone.specs.Owned.{AreLawful};
 ghost use Rattle.dns_zone.specs.Places.{at_places};
@@ -10,7 +11,9 @@ ghost use Rattle.dns_zone_tree.specs.Kinds.{kind_places, places_of};
 ghost use Rattle.dns_name_server.specs.Steps.{behind, end_reply, wire_message, wired};
 
 use crate::step::End;
-use dns_base::{AdditionalBuilder, Message, PushError, Rcode, Record, Rtype, WireRecords};
+use dns_base::{
+    AdditionalBuilder, AnswerBuilder, Message, PushError, Rcode, Record, Rtype, WireRecords,
+};
 use dns_name::OutOfMemory;
 use dns_zone::begin_reply;
 use dns_zone_tree::{Kinds, TypedPlace, ZoneTree, record_at};
@@ -182,21 +185,60 @@ fn denied(
     )
 }
 
+/// Adds the record at a place to the answers of a reply, if it is of a type.
+fn answer_kind(
+    alloc: Global,
+    records: &[Record],
+    kind: &TypedPlace,
+    rtype: u16,
+    reply: &mut AnswerBuilder,
+) -> Result<(), PushError>
+    requires lawful { AreLawful records.now }
+    requires short { KeepsLimit reply.old }
+    ensures { Becomes reply.new (with_records Answer reply.old
+        (map record_of (at_places records.now (places_of rtype (kind.now ∷ []))))) result }
+{
+    match kind.record(records, rtype) {
+        Some(record) => reply.push(alloc, record),
+        None => Ok(()),
+    }
+}
+
+/// Adds the records of a type at places to the answers of a reply, one after another.
+fn answer_kinds(
+    alloc: Global,
+    records: &[Record],
+    kinds: &[TypedPlace],
+    rtype: u16,
+    reply: &mut AnswerBuilder,
+) -> Result<(), PushError>
+    requires lawful { AreLawful records.now }
+    requires short { KeepsLimit reply.old }
+    ensures { Becomes reply.new (with_records Answer reply.old
+        (map record_of (at_places records.now (places_of rtype kinds.now)))) result }
+{
+    'each: for kind in kinds {
+        answer_kind(alloc, records, kind, rtype, reply)?;
+    }
+    Ok(())
+}
+
 /// The answers that are given, and the records of a type of a name.
 fn found(
     zone: &ZoneTree,
     alloc: Global,
     query: &Message,
-    given: WireRecords,
+    given: &WireRecords,
     kinds: &Kinds,
     rtype: u16,
 ) -> Result<AdditionalBuilder, PushError>
     ensures { Builds (unlimited (wire_message query.now
-        (behind given (wired (authoritative (at_places zone.now.records (kind_places rtype kinds.now))))))) result }
+        (behind given.now (wired (authoritative (at_places zone.now.records (kind_places rtype kinds.now))))))) result }
 {
-    let mut answers = given;
-    add_kinds(alloc, zone.records(), kinds.as_slice(), rtype, &mut answers)?;
-    alone(alloc, query, Rcode::NOERROR, &answers)
+    let mut reply = begin_reply(alloc, query, Rcode::NOERROR, true)?;
+    reply.push_records(given)?;
+    answer_kinds(alloc, zone.records(), kinds.as_slice(), rtype, &mut reply)?;
+    Ok(reply.additional())
 }
 
 /// The reply that has the aliases that are given, and their end.
@@ -210,7 +252,7 @@ pub(crate) fn composed(
     ensures { Builds (unlimited (wire_message query.now (behind given (wired (end_reply zone.now end.now))))) result }
 {
     match end {
-        End::Own(kinds, rtype) => found(zone, alloc, query, given, kinds, *rtype),
+        End::Own(kinds, rtype) => found(zone, alloc, query, &given, kinds, *rtype),
         End::Nothing => alone(alloc, query, Rcode::NOERROR, &given),
         End::Delegation(cut) => referred(zone, alloc, query, &given, cut),
         End::Denied(there) => denied(zone, alloc, query, &given, *there),

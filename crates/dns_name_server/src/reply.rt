@@ -6,12 +6,13 @@ ghost use Rattle.dns_base.specs.Builds.{Builds, unlimited};
 ghost use Rattle.dns_name.specs.Canonical.{same_name};
 ghost use Rattle.dns_route.specs.Routes.{ends_name};
 ghost use Rattle.dns_zone.specs.ZoneTurns.{zone_message};
-ghost use Rattle.dns_name_server.specs.NameServerReplies.{is_answered, name_server_reply};
+ghost use Rattle.dns_name_server.specs.NameServerReplies.{is_answered, name_server_reply, reply_from};
 ghost use Rattle.dns_name_server.specs.Steps.{behind, end_reply, wired};
 
 use crate::compose::composed;
+use crate::names::spelt;
 use crate::step::{End, Step, step_of};
-use dns_base::{AdditionalBuilder, Message, Name, PushError, QuestionRef, WireRecords};
+use dns_base::{AdditionalBuilder, Message, Name, NameRef, PushError, QuestionRef, WireRecords};
 use dns_name::OutOfMemory;
 use dns_route::matches_are_suffixes;
 use dns_zone_tree::ZoneTree;
@@ -40,7 +41,67 @@ fn is_answered(zone: &ZoneTree, seen: &[Name], name: &Name) -> bool
     name.ends_with(&zone.apex().for_ref()) && !is_among(name, seen)
 }
 
-/// Gives the aliases from a name on, and says what they end with.
+/// Gives the aliases after names that were asked for, and says what they end with.
+fn chain_behind<'a>(
+    zone: &'a ZoneTree,
+    alloc: Global,
+    question: &QuestionRef<'_>,
+    names: Vec<Name>,
+    next: Name,
+    given: &mut WireRecords,
+) -> Result<End<'a>, OutOfMemory>
+    requires { behind given.old (wired (reply_from zone.now question.now.qtype 127 names.items next))
+        ≡ wired (name_server_reply zone.now question.now) }
+    ensures { IfOk result (λ e. behind given.new (wired (end_reply zone.now e)) ≡ wired (name_server_reply zone.now question.now)) }
+{
+    let rtype = question.qtype().to_int();
+    let mut seen = names;
+    let mut name = next;
+    let mut left = MOST_NAMES - 1;
+    'names: loop {
+        if left == 0 {
+            return Ok(End::Nothing);
+        }
+        if !is_answered(zone, seen.as_slice(), &name) {
+            return Ok(End::Nothing);
+        }
+        left -= 1;
+        let found = step_of(zone, alloc, rtype, &name.for_ref(), given)?;
+        match found {
+            Step::End(end) => return Ok(end),
+            Step::On(next) => {
+                seen.push(name)?;
+                name = next;
+            }
+        }
+    }
+}
+
+/// Gives the aliases from the name of a question on, and says what they end with.
+fn chain_from<'a>(
+    zone: &'a ZoneTree,
+    alloc: Global,
+    question: &QuestionRef<'_>,
+    name: &NameRef<'_>,
+    given: &mut WireRecords,
+) -> Result<End<'a>, OutOfMemory>
+    requires name { name.now ≡ question.now.qname }
+    requires within { IsTrue (ends_name question.now.qname zone.now.apex) }
+    requires none { given.old ≡ [] }
+    ensures { IfOk result (λ e. behind given.new (wired (end_reply zone.now e)) ≡ wired (name_server_reply zone.now question.now)) }
+{
+    let found = step_of(zone, alloc, question.qtype().to_int(), name, given)?;
+    match found {
+        Step::End(end) => Ok(end),
+        Step::On(next) => {
+            let mut names = Vec::new(alloc);
+            names.push(name.to_owned(alloc)?)?;
+            chain_behind(zone, alloc, question, names, next, given)
+        }
+    }
+}
+
+/// Gives the aliases that a question leads to, and says what they end with.
 fn chain<'a>(
     zone: &'a ZoneTree,
     alloc: Global,
@@ -51,26 +112,10 @@ fn chain<'a>(
     requires none { given.old ≡ [] }
     ensures { IfOk result (λ e. behind given.new (wired (end_reply zone.now e)) ≡ wired (name_server_reply zone.now question.now)) }
 {
-    let rtype = question.qtype().to_int();
-    let mut name = question.qname().to_name(alloc)?;
-    let mut seen = Vec::new(alloc);
-    let mut left = MOST_NAMES - 1;
-    'names: loop {
-        let found = step_of(zone, alloc, rtype, &name.for_ref(), given)?;
-        match found {
-            Step::End(end) => return Ok(end),
-            Step::On(next) => {
-                seen.push(name)?;
-                if left == 0 {
-                    return Ok(End::Nothing);
-                }
-                if !is_answered(zone, seen.as_slice(), &next) {
-                    return Ok(End::Nothing);
-                }
-                left -= 1;
-                name = next;
-            }
-        }
+    let octets = spelt(question.qname().labels());
+    match NameRef::from_slice(octets.as_slice()) {
+        Ok(name) => chain_from(zone, alloc, question, &name, given),
+        Err(_) => unreachable!(),
     }
 }
 

@@ -10,7 +10,7 @@ returns-in-Nothing c =
     subst (λ (e : End). Builds (unlimited (wire_message c.args.query.now (behind c.args.given (wired (end_reply c.args.zone.now e))))) c.alone.result) (sym c.in-Nothing.is)
     (subst (λ (w : WireReply). Builds (unlimited (wire_message c.args.query.now w)) c.alone.result) (sym (answers_only c.args.given 0)) c.alone.ensures)
 
-pub returns-in-TooLong : goal.returns-in-TooLong
-returns-in-TooLong c =
+pub returns : goal.returns
+returns c =
     subst (λ (e : End). Builds (unlimited (wire_message c.args.query.now (behind c.args.given (wired (end_reply c.args.zone.now e))))) c.alone-in-TooLong.result) (sym c.in-TooLong.is)
     (subst (λ (w : WireReply). Builds (unlimited (wire_message c.args.query.now w)) c.alone-in-TooLong.result) (sym (answers_only c.args.given 6)) c.alone-in-TooLong.ensures)

@@ -1,20 +1,38 @@
-use Rattle.std.proofs.Common.{◌≡◌, List, map, ◌++◌, ap, sym, subst, ◌∙◌}
-use Rattle.dns_base.specs.Builds.{Builds, unlimited}
+use Rattle.std.proofs.Common.{List, map, ap, sym, subst, ◌∙◌}
+use Rattle.std.proofs.lemmas.Result.{err_from_is_err_and}
+use Rattle.dns_base.specs.Builds.{KeepsLimit}
 use Rattle.dns_base.specs.Records.{record_of}
 use Rattle.dns_message.specs.declared.record.Record.{Record}
 use Rattle.dns_zone.specs.Places.{at_places}
 use Rattle.dns_zone_tree.specs.Kinds.{kind_places, places_of}
 use Rattle.dns_zone_tree.specs.declared.kinds.TypedPlace.{TypedPlace}
-use Rattle.dns_name_server.specs.Steps.{WireReply, wire_message}
-use Rattle.dns_name_server.proofs.BuiltLaws.{answers_then}
+use Rattle.dns_name_server.proofs.BuiltLaws.{found_begun, given_refused, own_given, own_refused}
 use Rattle.dns_name_server.proofs.compose.found.Goals as goal
+
+pub returns-in_err-reply : goal.returns-in_err-reply
+returns-in_err-reply c =
+    let p = err_from_is_err_and c.from_residual.result c.from_residual.ensures.1 in
+    let rs = at_places c.args.zone.now.records (kind_places c.args.rtype c.args.kinds.now) in
+    rw (p.1, p.2) (found_begun c.args.query.now c.args.given.now rs c.in_err-reply.field-0.0 c.in_err-reply.ensures)
+
+pub returns-in_err-push_records : goal.returns-in_err-push_records
+returns-in_err-push_records c =
+    let p = err_from_is_err_and c.from_residual-in_err-push_records.result c.from_residual-in_err-push_records.ensures.1 in
+    let rs = at_places c.args.zone.now.records (kind_places c.args.rtype c.args.kinds.now) in
+    rw (p.1, p.2) (given_refused c.args.query.now c.args.given.now rs c.in_ok-reply.reply c.in_ok-reply.ensures.0 c.push_records.new.self c.in_err-push_records.field-0.0 c.in_err-push_records.ensures)
+
+pub answer_kinds-requires-clause-short : goal.answer_kinds-requires-clause-short
+answer_kinds-requires-clause-short c = subst KeepsLimit (sym c.in_ok-push_records.ensures.0) c.in_ok-push_records.ensures.1
+
+pub returns-in_err-answer_kinds : goal.returns-in_err-answer_kinds
+returns-in_err-answer_kinds c =
+    let p = err_from_is_err_and c.from_residual-in_err-answer_kinds.result c.from_residual-in_err-answer_kinds.ensures.1 in
+    let rs = at_places c.args.zone.now.records (kind_places c.args.rtype c.args.kinds.now) in
+    let e = ap (λ (x : List Record). map record_of (at_places x (places_of c.args.rtype c.as_slice.result.now))) c.records.ensures.value ∙ ap (λ (ks : List TypedPlace). map record_of (at_places c.args.zone.now.records (places_of c.args.rtype ks))) c.as_slice.ensures in
+    rw (p.1, p.2) (own_refused c.args.query.now c.args.given.now rs c.in_ok-reply.reply c.in_ok-reply.ensures.0 c.push_records.new.self c.answer_kinds.new.reply _ c.in_ok-push_records.ensures.0 e c.in_err-answer_kinds.field-0.0 c.in_err-answer_kinds.ensures)
 
 pub returns : goal.returns
 returns c =
-    let z = c.args.zone.now in
-    let rs = at_places z.records (kind_places c.args.rtype c.args.kinds.now) in
-    let e : c.add_kinds.new.into ≡ c.args.given ++ map record_of rs =
-    c.in_ok-add_kinds.ensures
-    ∙ (ap (λ (x : List Record). c.args.given ++ map record_of (at_places x (places_of c.args.rtype c.as_slice.result.now))) c.records.ensures.value
-    ∙ ap (λ (ks : List TypedPlace). c.args.given ++ map record_of (at_places z.records (places_of c.args.rtype ks))) c.as_slice.ensures) in
-    subst (λ (w : WireReply). Builds (unlimited (wire_message c.args.query.now w)) c.alone.result) (sym (answers_then c.args.given rs c.add_kinds.new.into e)) c.alone.ensures
+    let rs = at_places c.args.zone.now.records (kind_places c.args.rtype c.args.kinds.now) in
+    let e = ap (λ (x : List Record). map record_of (at_places x (places_of c.args.rtype c.as_slice.result.now))) c.records.ensures.value ∙ ap (λ (ks : List TypedPlace). map record_of (at_places c.args.zone.now.records (places_of c.args.rtype ks))) c.as_slice.ensures in
+    own_given c.args.query.now c.args.given.now rs c.in_ok-reply.reply c.in_ok-reply.ensures.0 c.push_records.new.self c.answer_kinds.new.reply _ c.in_ok-push_records.ensures.0 e c.additional.result c.additional.ensures c.in_ok-answer_kinds.ensures

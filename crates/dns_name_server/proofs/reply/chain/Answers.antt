@@ -1,60 +1,19 @@
-use Rattle.std.proofs.Common.{◌≡◌, ◌<◌, ℕ, List, [], ◌∷◌, ◌++◌, true, false, rules, refl, ap, sym, subst, ◌∙◌, arith}
-use Rattle.std.proofs.lemmas.Grind.{common_steps}
-use Rattle.dns_base.specs.Msg.{ResourceRecord}
-use Rattle.dns_route.specs.Routes.{ends_name}
-use Rattle.dns_zone.specs.Owned.{ZoneState}
-use Rattle.dns_zone_tree.specs.Regions.{asked_region}
-use Rattle.dns_name_server.specs.NameServerReplies.{by_region, is_answered}
-use Rattle.dns_name_server.specs.Steps.{StepsTo}
-use Rattle.dns_name_server.specs.declared.step.Step.{Step}
-use Rattle.dns_name_server.proofs.ChainLaws.{chain_ends, chain_first, chain_last, chain_next, chain_stops}
+use Rattle.std.proofs.Common.{ap, subst, sym, ◌∙◌}
+use Rattle.dns_name.specs.Labels.{IsName, spell}
+use Rattle.dns_name_server.proofs.FrontLaws.{spelt_named, spelt_never}
 use Rattle.dns_name_server.proofs.reply.chain.Goals as goal
 
-pub names-init : goal.names-init
-names-init c =
-    chain_first c.args.zone.now c.to_int-rtype.result c.args.question.now c.args.given.now 127 _ c.in_ok-name.name (c.to_int-rtype.ensures.value ∙ c.qtype.ensures) (c.in_ok-name.ensures ∙ c.qname.ensures) c.requires.none (search rules) refl c.requires.within
+pub spelt-octets-requires : goal.spelt-octets-requires
+spelt-octets-requires c = subst IsName (sym c.labels.ensures.value) c.labels.ensures.named
 
-pub step_of-requires : goal.step_of-requires
-step_of-requires c = ap (λ (n : List (List ℕ)). ends_name n c.args.zone.now.apex) c.for_ref.ensures.value ∙ c.names.invariant.within
+pub chain_from-requires-clause-name : goal.chain_from-requires-clause-name
+chain_from-requires-clause-name c =
+    let q = c.qname.result in
+    let e = c.as_slice.ensures.value ∙ (c.spelt-octets.ensures ∙ ap spell c.labels.ensures.value) in
+    spelt_named q c.in-Ok.name c.as_slice.result.now c.labels.ensures.named e c.in-Ok.ensures ∙ c.qname.ensures
 
--- what the step of the name that is asked for leads to
-steps : (z : ZoneState) (t : ℕ) (given new : List ResourceRecord) (found s : Step) (r n : List (List ℕ)) → StepsTo z given new found (λ go. by_region z go t r (asked_region z t r)) → r ≡ n → found ≡ s → StepsTo z given new s (λ go. by_region z go t n (asked_region z t n))
-steps z t given new found s r n h e i =
-    subst (λ (x : Step). StepsTo z given new x (λ go. by_region z go t n (asked_region z t n))) i (subst (λ (x : List (List ℕ)). StepsTo z given new found (λ go. by_region z go t x (asked_region z t x))) e h)
-
-pub returns-in-End : goal.returns-in-End
-returns-in-End c =
-    let z = c.args.zone.now in
-    let t = c.to_int-rtype.result in
-    let h = steps z t c.names.given c.step_of.new.given c.in_ok-found.found _ c.for_ref.result c.names.name c.in_ok-found.ensures c.for_ref.ensures.value c.in-End.is in
-    chain_ends z t c.args.question.now c.names.given c.names.left c.names.seen.items c.names.name c.step_of.new.given c.names.invariant c.in-End.end h
-
-pub returns-then-left-eq0 : goal.returns-then-left-eq0
-returns-then-left-eq0 c =
-    let z = c.args.zone.now in
-    let t = c.to_int-rtype.result in
-    let m : c.push.new.self.items ≡ c.names.seen.items ++ c.names.name ∷ [] = grind (arith, common_steps) in
-    let h = steps z t c.names.given c.step_of.new.given c.in_ok-found.found _ c.for_ref.result c.names.name c.in_ok-found.ensures c.for_ref.ensures.value c.in-On.is in
-    chain_last z t c.args.question.now c.names.given c.names.left c.names.seen.items c.names.name c.step_of.new.given c.names.invariant c.in-On.next c.push.new.self.items m h c.if-left-eq0.true
-
-pub returns-then-not-is_answered : goal.returns-then-not-is_answered
-returns-then-not-is_answered c =
-    let z = c.args.zone.now in
-    let t = c.to_int-rtype.result in
-    let m : c.push.new.self.items ≡ c.names.seen.items ++ c.names.name ∷ [] = grind (arith, common_steps) in
-    let h = steps z t c.names.given c.step_of.new.given c.in_ok-found.found _ c.for_ref.result c.names.name c.in_ok-found.ensures c.for_ref.ensures.value c.in-On.is in
-    let l : 0 < c.names.left = grind (arith, common_steps) in
-    let b : c.is_answered.result ≡ false = grind (arith, common_steps) in
-    let e : is_answered z c.push.new.self.items c.in-On.next ≡ false = sym (c.is_answered.ensures ∙ ap (λ (s : List (List (List ℕ))). is_answered z s c.in-On.next) c.as_slice.ensures.value) ∙ b in
-    chain_stops z t c.args.question.now c.names.given c.names.left c.names.seen.items c.names.name c.step_of.new.given c.names.invariant c.in-On.next c.push.new.self.items m h l e
-
-pub names-preserved : goal.names-preserved
-names-preserved c =
-    let z = c.args.zone.now in
-    let t = c.to_int-rtype.result in
-    let m : c.push.new.self.items ≡ c.names.seen.items ++ c.names.name ∷ [] = grind (arith, common_steps) in
-    let h = steps z t c.names.given c.step_of.new.given c.in_ok-found.found _ c.for_ref.result c.names.name c.in_ok-found.ensures c.for_ref.ensures.value c.in-On.is in
-    let l : 0 < c.names.left = grind (arith, common_steps) in
-    let b : c.is_answered.result ≡ true = grind (arith, common_steps) in
-    let e : is_answered z c.push.new.self.items c.in-On.next ≡ true = sym (c.is_answered.ensures ∙ ap (λ (s : List (List (List ℕ))). is_answered z s c.in-On.next) c.as_slice.ensures.value) ∙ b in
-    chain_next z t c.args.question.now c.names.given c.names.left c.names.seen.items c.names.name c.step_of.new.given c.names.invariant c.in-On.next c.push.new.self.items m h l e
+pub unreachable-requires : goal.unreachable-requires
+unreachable-requires c =
+    let q = c.qname.result in
+    let e = c.as_slice.ensures.value ∙ (c.spelt-octets.ensures ∙ ap spell c.labels.ensures.value) in
+    spelt_never q c.as_slice.result.now _ c.labels.ensures.named e c.in-Err.ensures
