@@ -43,8 +43,8 @@ labels-preserved c = λ name e h.
     cut_passed c.args.self.now c.self.inside.names known within name c.args.path.now c.labels.end e (c.labels.invariant name e h) c.labels-test.true
     (sym (ap (λ t. places_in t (option_copied c.kinds_at-kinds.result)) two ∙ ap (places_in 2) c.kinds_at-kinds.ensures) ∙ c.in_default.ensures)
 
-pub returns-then-len : goal.returns-then-len
-returns-then-len c = λ name e.
+pub returns-then-end-path : goal.returns-then-end-path
+returns-then-end-path c = λ name e.
     let k = c.labels.end + (get_or c.args.path.now c.labels.end 0 + 1) in
     let known = subst (λ (z : ZoneState). KnowsPlaces c.self.inside.names z.records) c.self.view_is c.self.invariant.known in
     let within = subst (λ (z : ZoneState). AllByRecursion (IsInZone z.apex) z.records) c.self.view_is c.self.invariant.within in
@@ -52,7 +52,7 @@ returns-then-len c = λ name e.
     let two : c.to_int.result ≡ 2 = c.to_int.ensures.value in
     let along = cut_passed c.args.self.now c.self.inside.names known within name c.args.path.now c.labels.end e (c.labels.invariant name e h) c.labels-test.true
     (sym (ap (λ t. places_in t (option_copied c.kinds_at-kinds.result)) two ∙ ap (places_in 2) c.kinds_at-kinds.ensures) ∙ c.in_default.ensures) in
-    let whole : length c.args.path.now ≤ k = omega (arith, c.if-len.true, c.len.ensures) in
+    let whole : length c.args.path.now ≤ k = omega (arith, c.if-end-path.true) in
     stands_within c.args.self.now name (option_copied c.kinds_at-kinds.result) c.within.result c.within.ensures
     (cut_none c.args.self.now c.self.inside.names known within name c.args.path.now k e along whole)
     (λ t. ap (places_in t) c.kinds_at-kinds.ensures ∙ (ap (λ p. places_under c.self.inside.names p t) (take_all k c.args.path.now whole) ∙ places_asked c.self.inside.names c.args.self.now.records c.args.path.now name t known e))
@@ -62,5 +62,5 @@ returns c = λ name e.
     let known = subst (λ (z : ZoneState). KnowsPlaces c.self.inside.names z.records) c.self.view_is c.self.invariant.known in
     let within = subst (λ (z : ZoneState). AllByRecursion (IsInZone z.apex) z.records) c.self.view_is c.self.invariant.within in
     let h = ends_like c.requires.name name c.args.self.now.apex (sym c.requires.is ∙ e) c.requires.within in
-    stands_within c.args.self.now name (option_copied c.kinds_of.result) c.within.result c.within.ensures
+    stands_within c.args.self.now name (option_copied c.kinds_of.result) c.within-2.result c.within-2.ensures
     (cut_none c.args.self.now c.self.inside.names known within name c.args.path.now c.labels.end e (c.labels.invariant name e h) c.labels-test.false) (c.kinds_of.ensures name e)
