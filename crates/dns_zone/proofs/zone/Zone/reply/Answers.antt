@@ -18,11 +18,11 @@ returns-in-Owner c =
     let q = c.args.question.now in
     let p : c.as_slice.result.now ≡ name_path q.qname = cc (c.as_slice.ensures.value, c.in_ok-path.ensures, c.labels.ensures.value, c.qname.ensures) in
     let o = c.in-Owner.ensures q.qname p in
-    c.reply_within.ensures q (cc (c.in_ok-path.ensures, c.labels.ensures.value, c.qname.ensures)) (cc (c.to_int-rtype.ensures, c.qtype.ensures)) o.0 o.1
+    c.reply_within.ensures q (cc (c.in_ok-path.ensures, c.labels.ensures.value, c.qname.ensures)) (cc (c.to_int-rtype.ensures.value, c.qtype.ensures)) o.0 o.1
 
-pub returns-in-Nothing : goal.returns-in-Nothing
-returns-in-Nothing c =
+pub returns : goal.returns
+returns c =
     let q = c.args.question.now in
     let p : c.as_slice.result.now ≡ name_path q.qname = cc (c.as_slice.ensures.value, c.in_ok-path.ensures, c.labels.ensures.value, c.qname.ensures) in
     let o = c.in-Nothing.ensures q.qname p in
-    c.reply_within-2.ensures q (cc (c.in_ok-path.ensures, c.labels.ensures.value, c.qname.ensures)) (cc (c.to_int-rtype.ensures, c.qtype.ensures)) o.0 o.1
+    c.reply_within-in-Nothing.ensures q (cc (c.in_ok-path.ensures, c.labels.ensures.value, c.qname.ensures)) (cc (c.to_int-rtype.ensures.value, c.qtype.ensures)) o.0 o.1
