@@ -3,6 +3,7 @@ pub mod PlaceLaws
 pub mod OrderLaws
 pub mod KeepLaws
 pub mod CutLaws
+mod StandingLaws
 pub mod GlueLaws
 pub mod AliasLaws
 pub mod ReplyLaws

@@ -15,4 +15,5 @@ pub mod Paths
 pub mod Places
 pub mod Kept
 pub mod Found
+pub mod Standings
 pub mod Defects

@@ -6,6 +6,7 @@ ghost use Rattle.std.specs.Option.{option_copied};
 ghost use Rattle.dns_zone.specs.Cuts.{cut_records, is_cut_off};
 ghost use Rattle.dns_zone.specs.Kept.{IsSought, begins_at, places_in};
 ghost use Rattle.dns_zone.specs.Owned.{is_asked};
+ghost use Rattle.dns_zone.specs.Standings.{OwnsSo, StandsSo};
 ghost use Rattle.dns_zone.specs.Paths.{name_path};
 ghost use Rattle.dns_zone.specs.Places.{at_places, places};
 ghost use Rattle.dns_zone.specs.ZoneReply.{exists};
@@ -25,23 +26,59 @@ pub(crate) fn places_in(kinds: Option<&Kinds>, rtype: u16) -> Option<&[usize]>
     }
 }
 
+/// Where a name stands in a zone.
+#[derive(Drop)]
+pub(crate) enum Standing<'a> {
+    /// At or below the cut whose NS records are at these places.
+    Cut(&'a [usize]),
+    /// At or below none, and it owns these.
+    Owner(&'a Kinds),
+    /// At or below none, and it owns nothing.
+    Nothing,
+}
+
+/// Where a name stands that is at or below no cut.
+fn within(kinds: Option<&Kinds>) -> Standing<'_>
+    ensures { OwnsSo (option_copied kinds.entry) result }
+{
+    match kinds {
+        Some(kinds) => Standing::Owner(kinds),
+        None => Standing::Nothing,
+    }
+}
+
 impl Zone {
-    /// The places of the NS records of the cut for the name of a path, if there is one. The names below the apex are
-    /// looked up from the shortest on.
+    /// Where the name of a path stands. The names below the apex are looked up from the shortest on, each once.
+    pub(crate) fn standing(&self, path: &[u8]) -> Standing<'_>
+        requires { IsSought self.now.apex path.now }
+        ensures { (name : List (List ℕ)) → path.now ≡ name_path name → StandsSo self.now name result }
+    {
+        let mut end = self.apex.as_slice().len() - 1;
+        'labels: while end < path.len() {
+            end += path[end] as usize + 1;
+            let kinds = self.names.kinds_at(&path[..end]);
+            if let Some(servers) = places_in(kinds, Rtype::NS.to_int()) {
+                return Standing::Cut(servers);
+            }
+            if end == path.len() {
+                return within(kinds);
+            }
+        }
+        within(self.kinds_of(path))
+    }
+
+    /// The places of the NS records of the cut for the name of a path, if there is one.
     pub(crate) fn cut(&self, path: &[u8]) -> Option<&[usize]>
         requires { IsSought self.now.apex path.now }
         ensures { (name : List (List ℕ)) → path.now ≡ name_path name
             → MatchOption result (is_cut_off self.now name ≡ false)
             (λ s. (is_cut_off self.now name ≡ true) × (at_places self.now.records s.now ≡ cut_records self.now name)) }
     {
-        let mut end = self.apex.as_slice().len() - 1;
-        'labels: while end < path.len() {
-            end += path[end] as usize + 1;
-            if let Some(servers) = self.names.find(&path[..end], Rtype::NS.to_int()) {
-                return Some(servers);
-            }
+        match self.standing(path) {
+            Standing::Cut(servers) => Some(servers),
+            Standing::Owner(_) => None,
+            Standing::Nothing => None,
         }
-        None
     }
 
     /// The places of the records of a type that the name of a path owns, if there are any.

@@ -4,6 +4,7 @@ ghost use Rattle.std.specs.Prelude.{◌≡◌, ℕ, List, IfOk, IsTrue, Some, fa
 ghost use Rattle.dns_base.specs.Builds.{Builds, unlimited};
 ghost use Rattle.dns_base.specs.Header.{header_of};
 ghost use Rattle.dns_base.specs.Sections.{first_of, questions_of};
+ghost use Rattle.std.specs.Option.{option_copied};
 ghost use Rattle.dns_message.specs.declared.question.Question.{Question};
 ghost use Rattle.dns_route.specs.Routes.{ends_name};
 ghost use Rattle.dns_zone.specs.Aliases.{followed};
@@ -11,11 +12,12 @@ ghost use Rattle.dns_zone.specs.Cuts.{is_cut_off};
 ghost use Rattle.dns_zone.specs.Kept.{IsSought};
 ghost use Rattle.dns_zone.specs.Paths.{name_path};
 ghost use Rattle.dns_zone.specs.Places.{at_places};
+ghost use Rattle.dns_zone.specs.Standings.{Owns};
 ghost use Rattle.dns_zone.specs.ZoneReply.{authoritative, delegation, denied, follows, referral, zone_reply};
 ghost use Rattle.dns_zone.specs.ZoneTurns.{GivesReply, IsReplyTo, asks_zone, zone_answer, zone_message};
 
-use crate::cuts::places_in;
-use crate::kinds::ANY;
+use crate::cuts::{Standing, places_in};
+use crate::kinds::{ANY, Kinds};
 use crate::laws::zone_replies_are_built;
 use crate::path::path_of;
 use crate::sections::{add_places, begin_reply};
@@ -120,18 +122,18 @@ impl Zone {
         Ok(reply.additional())
     }
 
-    /// The reply to a question for a type of the name of a path that isn't at or below a cut.
+    /// The reply to a question for a type of the name of a path that isn't at or below a cut, and owns these.
     fn reply_within(
         &self,
         alloc: Global,
         query: &Message,
         rtype: u16,
         path: &Vec<u8>,
+        kinds: Option<&Kinds>,
     ) -> Result<AdditionalBuilder, PushError>
         ensures { (q : Question) → path.now.items ≡ name_path q.qname → q.qtype ≡ rtype → is_cut_off self.now q.qname ≡ false
-            → Builds (unlimited (zone_message query.now (zone_reply self.now q))) result }
+            → Owns self.now q.qname (option_copied kinds.entry) → Builds (unlimited (zone_message query.now (zone_reply self.now q))) result }
     {
-        let kinds = self.kinds_of(path.as_slice());
         if follows(rtype) {
             if let Some(aliases) = places_in(kinds, Rtype::CNAME.to_int()) {
                 return self.followed(alloc, query, rtype, aliases);
@@ -162,9 +164,11 @@ impl Zone {
         ensures { Builds (unlimited (zone_message query.now (zone_reply self.now question.now))) result }
     {
         let path = path_of(alloc, question.qname().labels(), LONGEST)?;
-        match self.cut(path.as_slice()) {
-            Some(servers) => self.referred(alloc, query, servers),
-            None => self.reply_within(alloc, query, question.qtype().to_int(), &path),
+        let rtype = question.qtype().to_int();
+        match self.standing(path.as_slice()) {
+            Standing::Cut(servers) => self.referred(alloc, query, servers),
+            Standing::Owner(kinds) => self.reply_within(alloc, query, rtype, &path, Some(kinds)),
+            Standing::Nothing => self.reply_within(alloc, query, rtype, &path, None),
         }
     }
 

@@ -21,10 +21,9 @@ and_second true b h = h
 and_second false b h = refl
 
 pub returns-in-Some : goal.returns-in-Some
-returns-in-Some c = λ q e t n.
+returns-in-Some c = λ q e t n kept.
     let z = c.args.self.now in
     let five : c.to_int.result ≡ 5 = c.to_int.ensures.value in
-    let kept = c.kinds_of-kinds.ensures q.qname (c.as_slice.ensures.value ∙ e) in
     let p : c.in-Some.aliases.now ≡ places (is_asked q.qname 5) z.records = c.in-Some.ensures.0 ∙ (kept c.to_int.result ∙ ap (λ x. places (is_asked q.qname x) z.records) five) in
     let some : 0 < length (places (is_asked q.qname 5) z.records) = subst (λ (is : List ℕ). 0 < length is) p c.in-Some.ensures.1 in
     let a : list_any (is_asked q.qname 5) z.records ≡ true = places_some (is_asked q.qname 5) z.records some in
@@ -33,9 +32,8 @@ returns-in-Some c = λ q e t n.
     (c.followed.ensures q.qname (record { places = p; some = c.in-Some.ensures.1 }))
 
 pub returns-in-Some-places_in : goal.returns-in-Some-places_in
-returns-in-Some-places_in c = λ q e t n.
+returns-in-Some-places_in c = λ q e t n kept.
     let z = c.args.self.now in
-    let kept = c.kinds_of-kinds.ensures q.qname (c.as_slice.ensures.value ∙ e) in
     let p : c.in-Some-places_in.found.now ≡ places (is_asked q.qname q.qtype) z.records = c.in-Some-places_in.ensures.0 ∙ (kept c.args.rtype ∙ ap (λ x. places (is_asked q.qname x) z.records) (sym t)) in
     let a : list_any (is_asked q.qname q.qtype) z.records ≡ true = places_some (is_asked q.qname q.qtype) z.records (subst (λ (is : List ℕ). 0 < length is) p c.in-Some-places_in.ensures.1) in
     let f : (follows q.qtype && list_any (is_asked q.qname 5) z.records) ≡ false = elim c.if-follows.branch [
@@ -46,9 +44,8 @@ returns-in-Some-places_in c = λ q e t n.
     subst (λ (r : ZoneReply). Builds (unlimited (zone_message c.args.query.now r)) c.found.result) (sym (reply_found z q n f c.in-Some-places_in.found.now a p)) c.found.ensures
 
 pub returns-in-None : goal.returns-in-None
-returns-in-None c = λ q e t n.
+returns-in-None c = λ q e t n kept.
     let z = c.args.self.now in
-    let kept = c.kinds_of-kinds.ensures q.qname (c.as_slice.ensures.value ∙ e) in
     let m : list_any (is_asked q.qname q.qtype) z.records ≡ false = places_none (is_asked q.qname q.qtype) z.records (sym (kept c.args.rtype ∙ ap (λ x. places (is_asked q.qname x) z.records) (sym t)) ∙ c.in-None.ensures) in
     let f : (follows q.qtype && list_any (is_asked q.qname 5) z.records) ≡ false = elim c.if-follows.branch [
       | then-follows+in_default w ↦ and_second (follows q.qtype) (list_any (is_asked q.qname 5) z.records) (places_none (is_asked q.qname 5) z.records (sym (kept w.to_int.result ∙ ap (λ x. places (is_asked q.qname x) z.records) w.to_int.ensures.value) ∙ w.in_default.ensures))
