@@ -1,6 +1,6 @@
 pub mod GainedLaws
 pub mod ObservedLaws
-pub mod Askings
+pub mod AdmissionOutcomes
 pub mod BroughtLaws
 pub mod TurnLaws
 pub mod Loops

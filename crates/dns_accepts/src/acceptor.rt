@@ -205,7 +205,7 @@ where
     }
 
     /// Serves an admitted connection by work of its own, with the second half of the seat.
-    #[tactic(auto, using(crate::proofs::Askings::cause_of_start))]
+    #[tactic(auto, using(crate::proofs::AdmissionOutcomes::cause_of_start))]
     fn serve_admitted<L: Link + Send + Drop + 'static, P: Spawner<ConnectionWork<L, C, Silent, W>>>(
         &self,
         seat: BookSeat,
@@ -234,7 +234,7 @@ where
 
     /// Asks the book for a slot. A connection that is admitted is served by work of its own, with the second half of the seat;
     /// every other one is closed.
-    #[tactic(auto, using(crate::proofs::Askings::asked_full, crate::proofs::Askings::asked_closed))]
+    #[tactic(auto, using(crate::proofs::AdmissionOutcomes::asked_full, crate::proofs::AdmissionOutcomes::asked_closed))]
     fn take_connection<
         L: Link + Send + Drop + 'static,
         P: Spawner<ConnectionWork<L, C, Silent, W>>,

@@ -15,7 +15,7 @@ use Rattle.dns_dgram_driver.specs.Events.{packets_in}
 use Rattle.dns_dgram_driver.specs.Sent.{settings_shown, packets_delivered}
 use Rattle.dns_dgram_driver.specs.declared.serving.DgramEnd.{DgramEnd}
 use Rattle.dns_dgram_driver.specs.declared.serving.DgramEnd.TheVariants.{Shutdown, Counted, Fault, OutOfMemory as NoMemory}
-use Rattle.dns_dgram_driver.proofs.Sendings.{packets_part}
+use Rattle.dns_dgram_driver.proofs.SentDatagrams.{packets_part}
 use Rattle.dns_account.specs.Law.{KeptToTheRules, ByTheRules}
 use Rattle.dns_account.specs.DatagramLaw.{DatagramsByTheRules}
 

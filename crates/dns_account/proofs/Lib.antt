@@ -1,4 +1,4 @@
-pub mod Closings
-pub mod Hostings
+pub mod CloseReasons
+pub mod WitnessedHost
 pub mod Lawful
 pub mod Sends

@@ -49,7 +49,7 @@ fn ended<
 /// link, real sockets too, and by any clock. The octets handed to the link are frames that the rules for this client alone give.
 /// They give them for the octets taken from it and the events that it heard, in order. A part of one more may follow. Nothing need
 /// tell.
-#[tactic(auto, using(crate::proofs::Lawful::lawful, crate::proofs::Closings::end_seen))]
+#[tactic(auto, using(crate::proofs::Lawful::lawful, crate::proofs::CloseReasons::end_seen))]
 pub fn every_connection_kept_to_the_rules<
     R: Wait,
     L: Link + Send + Drop + 'static,

@@ -5,7 +5,7 @@ ghost use Rattle.std.specs.Fmt.{WritesOnOk};
 ghost use Rattle.std.specs.Iterator.{IsFinite};
 ghost use Rattle.dns_name.specs.OptData.{ParsesData, for_code, list_data};
 ghost use Rattle.dns_name.specs.Place.{rest};
-ghost use Rattle.dns_name.proofs.Readings.{list_again};
+ghost use Rattle.dns_name.proofs.OptionRoundTrip.{list_again};
 ghost use Rattle.dns_algs.specs.Algorithms.{CollectedFrom, more_algorithms_text, algorithms_text};
 
 use crate::collect::collected;

@@ -13,7 +13,7 @@ ghost use Rattle.dns_cache.specs.Steps.{GivesMessage, age_of};
 ghost use Rattle.dns_cache.specs.Keys.{AsksOnce};
 ghost use Rattle.dns_cache.specs.Marks.{IsKept, MarksFit, aged_octets, aged_ttl};
 
-use crate::kept::{CachedReply, own_opt};
+use crate::cached_reply::{CachedReply, own_opt};
 use crate::marks::Mark;
 use dns_base::{ComposeQuestion, Header, Message, QuestionRef};
 use dns_route::ReplyMessage;

@@ -8,7 +8,7 @@ ghost use Rattle.dns_cache.specs.AskedCache.{AnswersCached, asked_cache, cached_
 ghost use Rattle.dns_cache.specs.Steps.{GivesMessage, used_where};
 ghost use Rattle.dns_cache.specs.Keys.{AsksOnce, key_of, same_key};
 
-use crate::kept::{CachedReply, kept_reply};
+use crate::cached_reply::{CachedReply, kept_reply};
 use crate::key::{CacheKey, key_of};
 use dns_route::{ReplyMessage, Seed, SingleService, Turned};
 use dns_service::{OutOfMemory, Polled, Request};

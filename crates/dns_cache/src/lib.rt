@@ -30,7 +30,7 @@
 
 mod aged;
 mod cache;
-mod kept;
+mod cached_reply;
 mod key;
 mod laws;
 mod marks;

@@ -8,7 +8,7 @@ use Rattle.std.specs.BTreeMap.{BTreeMap, get}
 use Rattle.std.specs.BTreeSet.{contains}
 use Rattle.std.proofs.lemmas.Bool.{cases_eq}
 use Rattle.dns_core.proofs.OutLemmas.{one_longer}
-use Rattle.dns_core.proofs.Kept.{nothing_either_way, says, leaves}
+use Rattle.dns_core.proofs.KeptCore.{nothing_either_way, says, leaves}
 use Rattle.dns_admission.specs.declared.call.Call.TheVariants.{Release}
 use Rattle.dns_events.specs.declared.look.Look.{Look}
 use Rattle.dns_admission.specs.Machine.{state_after}

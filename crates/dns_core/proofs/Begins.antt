@@ -9,7 +9,7 @@ use Rattle.std.specs.BTreeSet.{BTreeSet, contains}
 use Rattle.std.proofs.lemmas.Bool.{cases_eq, eq-eqb, ne_eqb, not-false}
 use Rattle.dns_core.specs.Serves.{EntersWith}
 use Rattle.dns_core.proofs.OutLemmas.{one_longer}
-use Rattle.dns_core.proofs.Kept.{entered, entered_at, none_stands, nothing_held}
+use Rattle.dns_core.proofs.KeptCore.{entered, entered_at, none_stands, nothing_held}
 use Rattle.dns_events.specs.declared.look.Look.{Look}
 use Rattle.dns_admission.specs.Machine.{has_slot}
 use Rattle.dns_service.specs.Answer.{Answer}

@@ -8,7 +8,7 @@ use Rattle.std.specs.BTreeMap.{BTreeMap, get}
 use Rattle.std.specs.BTreeSet.{BTreeSet, contains}
 use Rattle.std.proofs.lemmas.Bool.{cases_eq, eq-eqb, ne_eqb, le-ltb, not-true, not-false}
 use Rattle.std.proofs.lemmas.List.{append-nil}
-use Rattle.dns_core.proofs.Kept.{entered, entered_at, none_at, none_stands, nothing_either_way, nothing_held}
+use Rattle.dns_core.proofs.KeptCore.{entered, entered_at, none_at, none_stands, nothing_either_way, nothing_held}
 use Rattle.dns_name.specs.declared.address.SocketAddr.{SocketAddr}
 use Rattle.dns_events.specs.declared.look.Look.{Look as State}
 use Rattle.dns_admission.specs.declared.admission.Admission.TheVariants.{Admitted, Full}

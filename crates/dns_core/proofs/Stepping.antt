@@ -9,7 +9,7 @@ use Rattle.std.specs.BTreeSet.{contains}
 use Rattle.std.proofs.lemmas.Bool.{cases_eq, eq-eqb, ne_eqb}
 use Rattle.std.proofs.lemmas.List.{append-nil}
 use Rattle.std.proofs.Math.Bool.{and-false}
-use Rattle.dns_core.proofs.Kept.{nothing_either_way, says, leaves, none_holds, none_stands, none_at}
+use Rattle.dns_core.proofs.KeptCore.{nothing_either_way, says, leaves, none_holds, none_stands, none_at}
 use Rattle.dns_events.specs.declared.look.Look.{Look as State}
 use Rattle.dns_admission.specs.declared.call.Call.TheVariants as call
 use Rattle.dns_admission.specs.declared.call.Reply.TheVariants as reply

@@ -169,14 +169,14 @@ module _ (z : ZoneState) (h : Hashing) (ns : List Nsec3State) (w : IsWhole3 z h 
       same : (u : ℕ) → nat_eq u u ≡ true
       same u = grind (arith, nat_tests)
 
-      told : (u : ℕ) → is_deniable u ≡ true → IsDeniable u
-      told u q = let p = or_parts (nat_eq u 46) (nat_eq u 47) (not-true (nat_eq u 46 || nat_eq u 47) q) in (p.0, p.1)
+      deniable_type : (u : ℕ) → is_deniable u ≡ true → IsDeniable u
+      deniable_type u q = let p = or_parts (nat_eq u 46) (nat_eq u 47) (not-true (nat_eq u 46 || nat_eq u 47) q) in (p.0, p.1)
 
       any : (nat_eq t 255 ≡ true) ⊎ (nat_eq t 255 ≡ false) → (nat_eq t 255 && list_any is_deniable a.types) ≡ false
       any (inr q) = and_left (nat_eq t 255) (list_any is_deniable a.types) q
       any (inl q) = and_right (nat_eq t 255) (list_any is_deniable a.types) (false_from_ne_true (list_any is_deniable a.types) (λ y.
           let f = found is_deniable a.types y in
-          true≢false (sym (present (nat_eq f.one) a.types f.one f.there (same f.one)) ∙ (at f.one (told f.one f.passes) ∙ no_record name t f.one d q))))
+          true≢false (sym (present (nat_eq f.one) a.types f.one f.there (same f.one)) ∙ (at f.one (deniable_type f.one f.passes) ∙ no_record name t f.one d q))))
 
       alias : (nat_eq t 255 ≡ true) ⊎ (nat_eq t 255 ≡ false) → list_any (is_record_at name 5) z.records ≡ false
       alias (inl q) = no_record name t 5 d q

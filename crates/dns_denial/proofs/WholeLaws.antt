@@ -91,9 +91,9 @@ whole_by z ns start sorted a b linked =
     let g = found (lists_record z f.one) ns (listed f.one f.there (must_as z n.owner f.one.owner own (owed n c))) in
     let p = and_parts (matches f.one.owner g.one) (not (is_to_list z f.one) || lists g.one (data_type f.one.rdata)) g.passes in
     let same : g.one ≡ n = one_owner ns sorted g.one n g.there c (same_trans g.one.owner f.one.owner n.owner p.0 q.0) in
-    let told : is_deniable (data_type f.one.rdata) ≡ true = subst (λ (u : ℕ). is_deniable u ≡ true) (sym e) (told_true t k) in
+    let deniable_type : is_deniable (data_type f.one.rdata) ≡ true = subst (λ (u : ℕ). is_deniable u ≡ true) (sym e) (told_true t k) in
     let has : has_type z f.one.owner (data_type f.one.rdata) ≡ true = subst (λ (u : ℕ). has_type z f.one.owner u ≡ true) (sym e) (type_as z n.owner f.one.owner t own h) in
-    let l : lists g.one (data_type f.one.rdata) ≡ true = first_of_or (is_to_list z f.one) (lists g.one (data_type f.one.rdata)) p.1 (and_from (is_deniable (data_type f.one.rdata)) (has_type z f.one.owner (data_type f.one.rdata)) told has) in
+    let l : lists g.one (data_type f.one.rdata) ≡ true = first_of_or (is_to_list z f.one) (lists g.one (data_type f.one.rdata)) p.1 (and_from (is_deniable (data_type f.one.rdata)) (has_type z f.one.owner (data_type f.one.rdata)) deniable_type has) in
     subst (λ (u : ℕ). lists n u ≡ true) e (subst (λ (m : NsecState). lists m (data_type f.one.rdata) ≡ true) same l) in
     record {
       held = held;

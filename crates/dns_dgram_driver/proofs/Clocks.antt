@@ -4,7 +4,7 @@ use Rattle.dns_events.specs.declared.event.Event.{Event}
 use Rattle.dns_events.specs.declared.event.EventKind.{EventKind}
 use Rattle.dns_events.specs.declared.event.EventKind.TheVariants.{Datagram, Turn, Fault, Reconfigure, Shutdown}
 use Rattle.dns_recorder.specs.Clocks.{ClockReading, ComesAt, DatedBy, Dated, Waited, LateAt}
-use Rattle.dns_recorder.proofs.Timings.{dated_append, dated_before}
+use Rattle.dns_recorder.proofs.EventTimes.{dated_append, dated_before}
 use Rattle.dns_dgram_driver.specs.Events.{IsDatagramKind}
 use Rattle.dns_dgram_driver.specs.DatagramsServed.{Clocked}
 

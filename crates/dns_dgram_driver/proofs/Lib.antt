@@ -1,10 +1,10 @@
 pub mod Slates
 pub mod Members
-pub mod Sendings
-pub mod Roundings
+pub mod SentDatagrams
+pub mod ReceivedAndPolled
 pub mod Counts
-pub mod Orderings
-pub mod Servings
+pub mod EventOrder
+pub mod KeptExchanges
 pub mod EventHeads
 pub mod Clocks
 pub mod Seats
@@ -20,6 +20,6 @@ pub mod Runs
 pub mod ObservedLaws
 pub mod Turns
 pub mod News
-pub mod Endings
+pub mod LoopRounds
 pub mod Starts
 pub mod Went

@@ -11,11 +11,11 @@ use Rattle.dns_recorder.specs.Own.{is_wide}
 use Rattle.dns_recorder.specs.Clocks.{ClockReading, Timed, write_count, writes_in, fault_count, faults_in}
 use Rattle.dns_recorder.specs.Woven.{kinds, AreNobodys}
 use Rattle.dns_recorder.specs.Notes.{AllWide, NotedKinds}
-use Rattle.dns_recorder.proofs.Notings.{kinds_append}
+use Rattle.dns_recorder.proofs.NotedEvents.{kinds_append}
 use Rattle.dns_dgram_driver.specs.DatagramsServed.{Clocked}
 use Rattle.dns_dgram_driver.specs.Steps.{NewsNoted}
 use Rattle.dns_dgram_driver.proofs.Clocks.{clocked_then}
-use Rattle.dns_dgram_driver.proofs.Servings.{news_wide}
+use Rattle.dns_dgram_driver.proofs.KeptExchanges.{news_wide}
 
 no_count : (k : EventKind) → is_wide k ≡ true → write_count k + fault_count k ≡ 0
 no_count (Reconfigure dgram stream) w = refl

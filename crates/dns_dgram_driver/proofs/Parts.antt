@@ -23,8 +23,8 @@ use Rattle.dns_dgram_driver.specs.Sent.{is_fault, nothing_if, count_if, fails_be
 use Rattle.dns_dgram_driver.specs.DatagramsServed.{Input, Delivered}
 use Rattle.dns_dgram_driver.specs.Steps.{Posts}
 use Rattle.dns_dgram_driver.proofs.Members.{kinds_more, gained_wide}
-use Rattle.dns_dgram_driver.proofs.Sendings.{faults_more, packets_more, packets_lost, early_more, early_lost}
-use Rattle.dns_dgram_driver.proofs.Roundings.{packets_in_more, numbers_in_more, turns_in_more, cut_packets_more, numbers_below_more, turns_more}
+use Rattle.dns_dgram_driver.proofs.SentDatagrams.{faults_more, packets_more, packets_lost, early_more, early_lost}
+use Rattle.dns_dgram_driver.proofs.ReceivedAndPolled.{packets_in_more, numbers_in_more, turns_in_more, cut_packets_more, numbers_below_more, turns_more}
 use Rattle.dns_dgram_driver.proofs.Quiet.{AllQuiet, quiet_kind, wide_quiet, append_two, packets_quiet, numbers_quiet, turns_quiet, between_quiet}
 
 -- own events are no Faults

@@ -15,7 +15,7 @@ use Rattle.dns_dgram_driver.specs.Rounds.{PassesOn}
 use Rattle.dns_dgram_driver.specs.declared.serving.DgramEnd.{DgramEnd}
 use Rattle.dns_dgram_driver.specs.declared.serving.DgramEnd.TheVariants.{Shutdown}
 use Rattle.dns_dgram_driver.specs.declared.running.Running.{Running}
-use Rattle.dns_dgram_driver.proofs.Orderings.{hears_closed}
+use Rattle.dns_dgram_driver.proofs.EventOrder.{hears_closed}
 use Rattle.dns_dgram_driver.proofs.Seats.{looks_none, looks_one, looks_then}
 
 or_false : (a : Bool) → (a || false) ≡ a

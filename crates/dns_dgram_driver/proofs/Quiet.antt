@@ -16,8 +16,8 @@ use Rattle.dns_dgram_driver.specs.Events.{IsDatagramKind, AllDatagramKinds, pack
 use Rattle.dns_dgram_driver.specs.Order.{fault_events, IsFaultOf}
 use Rattle.dns_dgram_driver.specs.Polled.{is_finished, waits_by, MayFollow, waits, TurnsBetween}
 use Rattle.dns_dgram_driver.proofs.Members.{kinds_more, conf_more, slate_own, slate_other}
-use Rattle.dns_dgram_driver.proofs.Sendings.{fault_idle}
-use Rattle.dns_dgram_driver.proofs.Roundings.{packets_in_more, numbers_in_more, turns_in_more, waits_more, turns_more}
+use Rattle.dns_dgram_driver.proofs.SentDatagrams.{fault_idle}
+use Rattle.dns_dgram_driver.proofs.ReceivedAndPolled.{packets_in_more, numbers_in_more, turns_in_more, waits_more, turns_more}
 
 abbrev pub IsQuiet : EventKind → Type 0
 IsQuiet Fault = Unit {0}

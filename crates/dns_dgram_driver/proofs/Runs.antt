@@ -23,12 +23,12 @@ use Rattle.dns_dgram_driver.specs.declared.running.Running.{Running}
 use Rattle.dns_dgram_driver.proofs.Clocks.{clocked_then, clocked_one, clocked_any}
 use Rattle.dns_dgram_driver.proofs.Members.{kinds_more}
 use Rattle.dns_dgram_driver.proofs.WideEvents.{nobodys_append, all_nobodys, own_nobodys}
-use Rattle.dns_dgram_driver.proofs.Orderings.{ordered_look, ordered_own}
+use Rattle.dns_dgram_driver.proofs.EventOrder.{ordered_look, ordered_own}
 use Rattle.dns_dgram_driver.proofs.Parts.{own_kind, input_quiet, input_look, input_same, delivered_wide, delivered_same, delivered_act}
 use Rattle.dns_dgram_driver.proofs.Quiet.{all_wide_quiet, faults_quiet, append_two, kinds_append, waits_quiet, slate_lost, conf_lost}
 use Rattle.dns_dgram_driver.proofs.Seats.{looks_then}
-use Rattle.dns_dgram_driver.proofs.Sendings.{packets_part, packets_part_list}
-use Rattle.dns_dgram_driver.proofs.Servings.{TypeOf, news_wide, serves_news}
+use Rattle.dns_dgram_driver.proofs.SentDatagrams.{packets_part, packets_part_list}
+use Rattle.dns_dgram_driver.proofs.KeptExchanges.{TypeOf, news_wide, serves_news}
 
 pub noted_more : (n0 n n' es fs : List Event) → n ≡ n0 ++ es → n' ≡ n ++ fs → n' ≡ n0 ++ (es ++ fs)
 noted_more n0 n n' es fs h g = rw (g, h) (append_assoc n0 es fs)

@@ -25,14 +25,14 @@ use Rattle.dns_dgram_driver.specs.declared.serving.DgramEnd.TheVariants.{Shutdow
 use Rattle.dns_dgram_driver.specs.declared.running.Running.{Running}
 use Rattle.dns_dgram_driver.proofs.Clocks.{clocked_any}
 use Rattle.dns_dgram_driver.proofs.Counts.{came_number, may_come_is, may_come_none, not_full, taken_less}
-use Rattle.dns_dgram_driver.proofs.Endings.{ran_rest, end_shutdown, end_count, end_fails, idles_finish}
+use Rattle.dns_dgram_driver.proofs.LoopRounds.{ran_rest, end_shutdown, end_count, end_fails, idles_finish}
 use Rattle.dns_dgram_driver.proofs.WideEvents.{all_nobodys}
-use Rattle.dns_dgram_driver.proofs.Orderings.{ordered_first}
+use Rattle.dns_dgram_driver.proofs.EventOrder.{ordered_first}
 use Rattle.dns_dgram_driver.proofs.Parts.{input_quiet, delivered_wide}
 use Rattle.dns_dgram_driver.proofs.Quiet.{all_wide_quiet, waits_quiet, kinds_append, packets_quiet, numbers_quiet}
 use Rattle.dns_dgram_driver.proofs.Seats.{looks_one}
-use Rattle.dns_dgram_driver.proofs.Sendings.{part_none}
-use Rattle.dns_dgram_driver.proofs.Servings.{news_wide, serves_news, serves_none}
+use Rattle.dns_dgram_driver.proofs.SentDatagrams.{part_none}
+use Rattle.dns_dgram_driver.proofs.KeptExchanges.{news_wide, serves_news, serves_none}
 use Rattle.dns_dgram_driver.proofs.Shown.{shown_closed}
 
 never : (a b : Bool) → a ≡ false → a ≡ true → b ≡ true

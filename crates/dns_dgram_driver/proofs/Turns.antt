@@ -30,13 +30,13 @@ use Rattle.dns_dgram_driver.specs.declared.running.KeptExchange.{KeptExchange}
 use Rattle.dns_dgram_driver.specs.declared.running.Running.{Running}
 use Rattle.dns_dgram_driver.proofs.Counts.{came_number, may_come_is}
 use Rattle.dns_dgram_driver.proofs.WideEvents.{all_nobodys, own_nobodys}
-use Rattle.dns_dgram_driver.proofs.Orderings.{hears_closed}
+use Rattle.dns_dgram_driver.proofs.EventOrder.{hears_closed}
 use Rattle.dns_dgram_driver.proofs.Parts.{input_turn, input_datagram}
 use Rattle.dns_dgram_driver.proofs.Quiet.{AllQuiet, all_wide_quiet, quiet_kind, packets_quiet, numbers_quiet}
-use Rattle.dns_dgram_driver.proofs.Roundings.{packets_in_more, numbers_in_more, cut_packets_more, numbers_below_more, waits_more}
+use Rattle.dns_dgram_driver.proofs.ReceivedAndPolled.{packets_in_more, numbers_in_more, cut_packets_more, numbers_below_more, waits_more}
 use Rattle.dns_dgram_driver.proofs.Runs.{ran_look, ran_act, cut_off}
 use Rattle.dns_dgram_driver.proofs.Seats.{looks_none, looks_one}
-use Rattle.dns_dgram_driver.proofs.Servings.{TypeOf, serves_turn, posted_turn, serves_datagram, posted_datagram}
+use Rattle.dns_dgram_driver.proofs.KeptExchanges.{TypeOf, serves_turn, posted_turn, serves_datagram, posted_datagram}
 
 all_quiet_plain : (es : List Event) → AllQuiet es → AllDatagramKinds es
 all_quiet_plain [] a = tt

@@ -14,7 +14,7 @@ use dns_name::OutOfMemory;
 use std::alloc::Global;
 
 /// A question that is asked of one upstream: which octets are sent and when again, and which are the answer. It does no input or
-/// output: its owner sends `octets` when it is made and wherever a tick says `Send`, and tells it what arrives and what time it is.
+/// output: its owner sends `octets` when it is made and whenever a tick says `Send`, and tells it what arrives and what time it is.
 /// Moments are in any unit, the timeout's.
 #[derive(Debug, Drop)]
 pub struct Asking {

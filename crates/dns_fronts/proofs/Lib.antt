@@ -1,3 +1,3 @@
-mod Takings
-mod Cachings
-mod Servings
+mod LayerDecisions
+mod LayersOverCache
+mod ServerReplyLaws

@@ -4,8 +4,8 @@ use Rattle.std.specs.Prelude.{IfErr, IfOk, Result}
 use Rattle.dns_message.specs.declared.record.Record.{Record}
 use Rattle.dns_authority.specs.declared.zone_data.ZoneData.{ZoneData}
 use Rattle.dns_zone_file.specs.ZoneFile.{zone_file}
-use Rattle.dns_generation.specs.declared.fault.ZoneTextError.{ZoneTextError}
-use Rattle.dns_generation.specs.declared.fault.ZoneTextError.TheVariants.{Line, NotSigned, NotZone, OutOfMemory as NoMemory}
+use Rattle.dns_generation.specs.declared.zone_text_error.ZoneTextError.{ZoneTextError}
+use Rattle.dns_generation.specs.declared.zone_text_error.ZoneTextError.TheVariants.{Line, NotSigned, NotZone, OutOfMemory as NoMemory}
 use Rattle.dns_generation.specs.Generations.{Denies, HasFault, IsWritten, IsZoneOf}
 
 pub writes : (apex : List (List ℕ)) (text : List ℕ) (copy : List (List ℕ)) (records : List Record) (r : Result ZoneData ZoneTextError) → copy ≡ apex → zone_file apex text ≡ Ok records → IfOk r (IsZoneOf (record { apex = copy; records = records })) → IfOk r (IsWritten apex text)

@@ -18,8 +18,8 @@ use Rattle.dns_nsec_data.specs.NsecData.{IsChainOf}
 use Rattle.dns_signed_zone.specs.MadeZones.{Refuses}
 use Rattle.dns_authority.specs.declared.networks.Network.{Network}
 use Rattle.dns_config.specs.declared.prefix.Prefix.{Prefix}
-use Rattle.dns_generation.specs.declared.fault.ZoneTextError.{ZoneTextError}
-use Rattle.dns_generation.specs.declared.fault.ZoneTextError.TheVariants.{Line, NotSigned, NotZone, OutOfMemory}
+use Rattle.dns_generation.specs.declared.zone_text_error.ZoneTextError.{ZoneTextError}
+use Rattle.dns_generation.specs.declared.zone_text_error.ZoneTextError.TheVariants.{Line, NotSigned, NotZone, OutOfMemory}
 use Rattle.dns_generation.specs.declared.generation.ZoneSummary.{ZoneSummary}
 
 abbrev pub network_of : Prefix → Network

@@ -6,7 +6,7 @@ ghost use Rattle.dns_authority.specs.ServedZones.{tree_of};
 ghost use Rattle.dns_secondary_service.specs.Withheld.{withholding};
 ghost use Rattle.dns_generation.specs.Generations.{AddsFile, HasFault, networks_or, summary_of, timers_among, with_withheld, with_zone};
 
-use crate::fault::ZoneTextError;
+use crate::zone_text_error::ZoneTextError;
 use crate::zones::zone_of;
 use dns_authority::{Authority, Network, ZoneData};
 use dns_message::Record;

@@ -27,12 +27,12 @@
 //! Which file a text came from is up to the caller.
 #![tactic(auto)]
 
-mod fault;
 mod generation;
 mod network;
 mod text;
+mod zone_text_error;
 mod zones;
 
-pub use fault::ZoneTextError;
 pub use generation::{Generation, ZoneSummary};
 pub use network::networks;
+pub use zone_text_error::ZoneTextError;

@@ -1,6 +1,6 @@
 //! Why a line of a zone file is refused, in words.
 
-use crate::fault::ZoneTextError;
+use crate::zone_text_error::ZoneTextError;
 use dns_denial::ChainError;
 use dns_nsec_data::NsecError;
 use dns_signed_zone::SignedZoneError;

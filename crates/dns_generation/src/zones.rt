@@ -6,7 +6,7 @@ ghost use Rattle.std.specs.List.{list_any};
 ghost use Rattle.dns_zone.specs.Owned.{AreLawful, is_of};
 ghost use Rattle.dns_generation.specs.Generations.{Denies, HasFault, IsWritten, IsZoneOf};
 
-use crate::fault::ZoneTextError;
+use crate::zone_text_error::ZoneTextError;
 use dns_authority::ZoneData;
 use dns_message::Record;
 use dns_name::Name;

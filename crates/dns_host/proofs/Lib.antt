@@ -1,1 +1,1 @@
-pub mod Hostings
+pub mod ServedHost

@@ -115,7 +115,7 @@ where
     }
 
     /// Serves both from the halves of a seat. Then `join_all` waits for the work, and the book is shut down.
-    #[tactic(auto, using(crate::proofs::Hostings::host_served))]
+    #[tactic(auto, using(crate::proofs::ServedHost::host_served))]
     fn serve<
         R: Threads + Wait + Copy + Send + Sync + 'static,
         W: SharedService + Send + Sync + 'static,
@@ -218,7 +218,7 @@ fn shared<C: Clock, W: SharedService>(
 /// Serves connections and datagrams beside each other, until `count` of each were taken, `count` not 0, or a look shows a
 /// shutdown. Then `join_all` of the spawner waits for the work, of which no clause says that it has ended, and the book is
 /// shut down.
-#[tactic(auto, using(crate::proofs::Hostings::none_served))]
+#[tactic(auto, using(crate::proofs::ServedHost::none_served))]
 pub fn host_service<
     R: Threads + Wait + Copy + Send + Sync + 'static,
     A: AsyncAccept,

@@ -7,7 +7,7 @@ use Rattle.std.specs.Cmp.Lexicographic.{pointwise}
 use Rattle.std.specs.List.{list_all}
 use Rattle.dns_name.specs.Addresses.{address_octets}
 use Rattle.dns_name.specs.OptData.{kind, whole, for_code}
-use Rattle.dns_name.proofs.Readings.{same_number, taken_whole}
+use Rattle.dns_name.proofs.OptionRoundTrip.{same_number, taken_whole}
 use Rattle.dns_name.specs.declared.address.IpAddr.TheVariants.{V4, V6}
 use Rattle.dns_name.specs.declared.address.IpAddr.{IpAddr}
 use Rattle.dns_kinds.specs.Subnet.{AreOctets, IsClear, IsSubnet, Subnet, mask_octet, masked, octets_for, with_zeros, address, with_address, subnet_data, subnet_octets}

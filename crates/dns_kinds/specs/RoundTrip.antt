@@ -4,7 +4,7 @@ use Rattle.std.proofs.lemmas.Bool.Decides.{nat_tests}
 use Rattle.std.specs.Prelude.{◌≢◌, nat_lt, IfSome, Some, None, Ok, Option}
 use Rattle.dns_name.specs.Labels.{spell, IsName}
 use Rattle.dns_name.specs.OptData.{kind, whole, for_code}
-use Rattle.dns_name.proofs.Readings.{not_below, taken_whole}
+use Rattle.dns_name.proofs.OptionRoundTrip.{not_below, taken_whole}
 use Rattle.dns_name.proofs.Spelt.{spelt_alone}
 use Rattle.dns_kinds.specs.Timers.{expire_data, expire_octets, keepalive_data, keepalive_octets}
 use Rattle.dns_kinds.specs.Extended.{Extended, IsExtended, TextFits, extended, extended_data, extended_of, extended_octets, taken_text, text_octets}

@@ -3,7 +3,7 @@ use Rattle.std.proofs.Common.{◌≡◌, ℕ, ◌≤◌, List, length, true, ref
 use Rattle.std.proofs.lemmas.Bool.Decides.{nat_tests}
 use Rattle.std.specs.Prelude.{nat_eq, Some, Ok}
 use Rattle.dns_name.specs.OptData.{kind, for_code}
-use Rattle.dns_name.proofs.Readings.{not_above, not_below}
+use Rattle.dns_name.proofs.OptionRoundTrip.{not_above, not_below}
 use Rattle.dns_lists.specs.Tags.{AreTags, tag_data}
 use Rattle.dns_lists.specs.Unknowns.{Unknown, unknown_taken}
 

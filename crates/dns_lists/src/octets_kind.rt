@@ -3,7 +3,7 @@
 ghost use Rattle.std.specs.Prelude.{◌≡◌, ◌≤◌, ◌<◌, ◌++◌, [], ℕ, List, length, Some, Ok, IfOk, OnOk, MatchResult};
 ghost use Rattle.dns_name.specs.OptData.{ParsesData, for_code, list_data};
 ghost use Rattle.dns_name.specs.Place.{rest};
-ghost use Rattle.dns_name.proofs.Readings.{list_again};
+ghost use Rattle.dns_name.proofs.OptionRoundTrip.{list_again};
 ghost use Rattle.dns_lists.specs.Texts.{octets_text};
 
 use crate::texts::write_octets;

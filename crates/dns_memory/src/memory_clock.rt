@@ -34,7 +34,7 @@ impl MemoryClock {
     }
 }
 
-#[tactic(auto, using(crate::proofs::Readings::reading_listed, crate::proofs::Readings::reading_again))]
+#[tactic(auto, using(crate::proofs::ClockReadings::reading_listed, crate::proofs::ClockReadings::reading_again))]
 impl Clock for MemoryClock {
     ghost tells = { λ s. StillCounts s.given };
 

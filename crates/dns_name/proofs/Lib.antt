@@ -3,7 +3,7 @@ pub mod Named
 pub mod Spelt
 pub mod Grammars
 pub mod Whole
-pub mod Readings
+pub mod OptionRoundTrip
 pub mod Orders
 pub mod FromTexts
 pub mod FromNames

@@ -57,7 +57,7 @@ label_in_front l m a b c d found order e f g h =
     ∙ (ap (λ o. ordering_then o found) (sym (name_cmp_append (l ∷ []) (m ∷ []) a b (as_many l m a b c d e f g)))
     ∙ (λ i. ordering_then (name_cmp (sym e i) (sym f i)) found))))
 
--- one list of two ends where the other has no more
+-- if one of two lists is empty, their counts decide
 by_count : (R : List ℕ → List ℕ → Ordering) (p q : List (List ℕ)) (m n : ℕ) → length p ≡ m - n → length q ≡ n - m → slice_cmp R p q ≡ nat_cmp m n
 by_count R [] [] m n e f = grind (arith, nat_tests)
 by_count R [] (y ∷ q) m n e f = grind (arith, nat_tests)

@@ -10,11 +10,11 @@ use Rattle.dns_name.specs.Labels.{AreLabels, IsName, folded, spell}
 use Rattle.dns_name.specs.Names.{labels_of, uncompressed_at}
 use Rattle.dns_name.proofs.Spelt.{labels_alone}
 
-pub told : (r : Bool) (a b : List (List ℕ)) → (IsTrue r ↔ (folded a ≡ folded b)) → r ≡ same_name a b
-told r a b h = same_from_decides r (same_name a b) h (same_name_Decides a b)
+pub is_same_name : (r : Bool) (a b : List (List ℕ)) → (IsTrue r ↔ (folded a ≡ folded b)) → r ≡ same_name a b
+is_same_name r a b h = same_from_decides r (same_name a b) h (same_name_Decides a b)
 
-pub told_by : (r : Bool) (a b c d : List (List ℕ)) → c ≡ a → d ≡ b → (IsTrue r ↔ (folded c ≡ folded d)) → r ≡ same_name a b
-told_by r a b c d e f h = told r c d h ∙ (λ i. same_name (e i) (f i))
+pub is_same_name_by : (r : Bool) (a b c d : List (List ℕ)) → c ≡ a → d ≡ b → (IsTrue r ↔ (folded c ≡ folded d)) → r ≡ same_name a b
+is_same_name_by r a b c d e f h = is_same_name r c d h ∙ (λ i. same_name (e i) (f i))
 
 -- no length is a letter
 small : (n : ℕ) → n < 64 → to_ascii_lowercase n ≡ n

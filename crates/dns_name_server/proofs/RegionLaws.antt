@@ -9,7 +9,7 @@ use Rattle.dns_name.specs.Canonical.{same_name, same_name_equiv}
 use Rattle.dns_message.specs.declared.record.Record.{Record}
 use Rattle.dns_route.specs.Routes.{ends_name}
 use Rattle.dns_zone.specs.Cuts.{cut_records, is_cut_off}
-use Rattle.dns_zone.specs.Kept.{IsInZone}
+use Rattle.dns_zone.specs.ZoneIndex.{IsInZone}
 use Rattle.dns_zone.specs.Owned.{ZoneState, asked_records, is_asked, is_of, is_owned}
 use Rattle.dns_zone.proofs.CutLaws.{NoneUpTo, at_level, cut_at, none_cut, none_more, some_cut}
 use Rattle.dns_zone.proofs.PathLaws.{begins_of, both_true, eq_true, first_true, le_true, same_length, second_true, true_eq}

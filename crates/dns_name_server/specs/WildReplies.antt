@@ -10,7 +10,7 @@ use Rattle.dns_route.specs.Routes.{ends_name}
 use Rattle.dns_zone.specs.Owned.{ZoneState, is_asked, is_of}
 use Rattle.dns_zone.specs.Cuts.{cut_records, is_cut_off}
 use Rattle.dns_zone.specs.Aliases.{aliased, unaliased}
-use Rattle.dns_zone.specs.Kept.{IsInZone}
+use Rattle.dns_zone.specs.ZoneIndex.{IsInZone}
 use Rattle.dns_zone.specs.ZoneReply.{ZoneReply, authoritative, denied, exists, follows, referral, zone_reply}
 use Rattle.dns_zone_tree.specs.Wildcards.{are_some, had_records, is_covered, star}
 use Rattle.dns_name_server.specs.NameServerReplies.{name_server_reply}

@@ -1,3 +1,3 @@
 mod Events
-mod Beginnings
+mod ClientMessages
 mod Placed

@@ -6,7 +6,7 @@ use Rattle.dns_message.specs.declared.header.HeaderCounts.{HeaderCounts}
 use Rattle.dns_proxy_status.specs.declared.events.ProxyEvent.{ProxyEvent}
 use Rattle.dns_proxy_status.specs.declared.events.ProxyEvent.TheVariants.{Cached, Dropped, Full, NoCookie, QueryOverTcp, QueryOverUdp}
 
--- a message is no query where it is shorter than a header, or has QR set (RFC 1035, section 4.1.1)
+-- a message is no query if it is shorter than a header, or has QR set (RFC 1035, section 4.1.1)
 abbrev pub is_no_query : List ℕ → Bool
 is_no_query message = nat_lt (length message) 12 || (header_of message).qr
 

@@ -58,7 +58,7 @@ fn has_records(counts: HeaderCounts) -> bool
 }
 
 /// What a reply tells that is sent before an upstream is asked. Only one out of the cache has records in its answer or in its authority
-/// section. REFUSED and BADCOOKIE are sent for want of a good cookie alone, and SERVFAIL where no upstream can be asked. None if the
+/// section. REFUSED and BADCOOKIE are sent only if a good cookie is missing, and SERVFAIL if no upstream can be asked. None if the
 /// layers answer otherwise.
 pub fn event_at_once(reply: &MessageRef<'_>) -> Option<ProxyEvent>
     ensures { result ≡ event_at_once reply.now }

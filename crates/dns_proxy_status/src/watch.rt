@@ -183,7 +183,7 @@ impl Watch {
         Ok(bound)
     }
 
-    /// Hears orders at a control socket. The waker is woken where the proxy is to end.
+    /// Hears orders at a control socket. The waker is woken when the proxy is to end.
     pub fn hear<R: Clock + Threads + Wait + Copy + Send + Sync + 'static>(
         &mut self,
         machine: R,

@@ -1,2 +1,2 @@
-pub mod Notings
-pub mod Timings
+pub mod NotedEvents
+pub mod EventTimes

@@ -40,7 +40,7 @@ pub fn now_is<C: Clock>(clock: &mut C, client: u64, kind: EventKind) -> Event
 }
 
 /// Notes an event of now that is no Write. The answer is its moment.
-#[tactic(auto, using(crate::proofs::Notings::noted_moment, crate::proofs::Notings::timed_moment))]
+#[tactic(auto, using(crate::proofs::NotedEvents::noted_moment, crate::proofs::NotedEvents::timed_moment))]
 pub fn note_moment<C: Clock, J: Recorder>(
     alloc: Global,
     client: u64,

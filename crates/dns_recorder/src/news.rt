@@ -13,7 +13,7 @@ use dns_name::OutOfMemory;
 use std::alloc::Global;
 
 /// Notes the configurations, if their version is new.
-#[tactic(auto, using(crate::proofs::Notings::noted_none, crate::proofs::Notings::noted_kind, crate::proofs::Timings::timed_none))]
+#[tactic(auto, using(crate::proofs::NotedEvents::noted_none, crate::proofs::NotedEvents::noted_kind, crate::proofs::EventTimes::timed_none))]
 pub fn note_version<C: Clock, J: Recorder>(
     alloc: Global,
     clock: &mut C,
@@ -38,7 +38,7 @@ pub fn note_version<C: Clock, J: Recorder>(
 }
 
 /// Notes the shutdown, if it is new.
-#[tactic(auto, using(crate::proofs::Notings::noted_none, crate::proofs::Notings::noted_kind, crate::proofs::Timings::timed_none))]
+#[tactic(auto, using(crate::proofs::NotedEvents::noted_none, crate::proofs::NotedEvents::noted_kind, crate::proofs::EventTimes::timed_none))]
 pub fn note_shutdown<C: Clock, J: Recorder>(
     alloc: Global,
     clock: &mut C,

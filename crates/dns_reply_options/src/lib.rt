@@ -7,7 +7,7 @@
 //!   (RFC 5001).
 //!
 //! ```text
-//! request -> the service inside -> reply with OPT -> the option behind the others -> cut to the size that is allowed
+//! request -> the service inside -> reply with OPT -> the option after the others -> cut to the size that is allowed
 //! ```
 //!
 //! They stand round `wrap` of dns_middleware. Its EDNS layer gives each reply an OPT record if the request has one. Its cookie

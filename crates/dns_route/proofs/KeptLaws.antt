@@ -6,7 +6,7 @@ use Rattle.std.proofs.lemmas.Bool.{leb-true}
 use Rattle.dns_name.specs.Place.{be16}
 use Rattle.dns_base.specs.Options.{split_at, first_option, with_first, options_up_to, options, option_octets, IsOptionList}
 use Rattle.dns_route.specs.declared.kept.KeptKinds.{KeptKinds}
-use Rattle.dns_route.specs.Kept.{keeps, kept_options, kept_of_list}
+use Rattle.dns_route.specs.KeptOptions.{keeps, kept_options, kept_of_list}
 
 -- ---- the first option of a list
 

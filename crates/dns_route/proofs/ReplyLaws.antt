@@ -7,7 +7,7 @@ use Rattle.dns_base.specs.Standing.{GivesParsed}
 use Rattle.dns_opt.specs.OptRecords.{OptState, opt_of}
 use Rattle.dns_service.specs.ReplyErrors.{parse_refused}
 use Rattle.dns_route.specs.declared.kept.KeptKinds.TheVariants.{SubnetsAndErrors}
-use Rattle.dns_route.specs.Kept.{kept_opt}
+use Rattle.dns_route.specs.KeptOptions.{kept_opt}
 use Rattle.dns_route.specs.ReplyMessage.{BeginsReply, Composes, ReplyState, reply_by, reply_read, reply_with, reply_with_opt}
 
 -- a copy that is refused is so as a reply

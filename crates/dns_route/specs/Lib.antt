@@ -15,7 +15,7 @@ pub use Rattle.dns_service.specs.Codes
 pub use Rattle.dns_service.specs.Copied
 pub use Rattle.dns_service.specs.LastOpt
 pub use Rattle.dns_message.specs.TypedData
-pub mod Kept
+pub mod KeptOptions
 pub mod ReplyMessage
 pub mod RequestMessage
 pub mod OwnReplies

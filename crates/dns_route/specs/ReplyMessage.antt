@@ -15,7 +15,7 @@ use Rattle.dns_service.specs.declared.reply_error.ReplyError.TheVariants.{Servic
 use Rattle.dns_route.specs.declared.kept.KeptKinds.TheVariants.{SubnetsAndErrors}
 use Rattle.dns_service.specs.LastOpt.{and_opt}
 use Rattle.dns_service.specs.Copied.{copied}
-use Rattle.dns_route.specs.Kept.{kept_opt}
+use Rattle.dns_route.specs.KeptOptions.{kept_opt}
 
 -- the octets of the message, and the OPT record that the reply gets
 pub record ReplyState : Type 0 where

@@ -16,7 +16,7 @@ use Rattle.dns_route.specs.declared.request.Error.{Error}
 use Rattle.dns_route.specs.declared.request.Error.TheVariants.{Unreadable, OutOfMemory as NoMemory}
 use Rattle.dns_service.specs.LastOpt.{and_opt}
 use Rattle.dns_service.specs.Copied.{copied}
-use Rattle.dns_route.specs.Kept.{kept_opt, plain_head}
+use Rattle.dns_route.specs.KeptOptions.{kept_opt, plain_head}
 
 -- the message without its OPT record, whether DNSSEC records are wanted, and the options that are sent
 pub record RequestState : Type 0 where

@@ -5,7 +5,7 @@ ghost use Rattle.dns_base.specs.Options.{option_octets};
 ghost use Rattle.dns_base.specs.Standing.{GivesParsed};
 ghost use Rattle.dns_opt.specs.OptRecords.{opt_state, zero_head};
 ghost use Rattle.dns_opt.specs.Pushes.{Pushed};
-ghost use Rattle.dns_route.specs.Kept.{checked, keeps, kept_of_list, kept_opt, plain_head};
+ghost use Rattle.dns_route.specs.KeptOptions.{checked, keeps, kept_of_list, kept_opt, plain_head};
 
 use dns_base::{ParseError, first_option};
 use dns_lists::UnknownOptDataRef;

@@ -7,7 +7,7 @@ ghost use Rattle.dns_base.specs.Standing.{GivesParsed};
 ghost use Rattle.dns_opt.specs.Reopened.{opt_among};
 ghost use Rattle.dns_service.specs.LastOpt.{and_opt};
 ghost use Rattle.dns_route.specs.declared.kept.KeptKinds.TheVariants.{SubnetsAndErrors};
-ghost use Rattle.dns_route.specs.Kept.{kept_opt};
+ghost use Rattle.dns_route.specs.KeptOptions.{kept_opt};
 ghost use Rattle.dns_route.specs.ReplyMessage.{Adds, BeginsReply, Composes, ReplyState, reply_message, reply_read, reply_with};
 
 use crate::kept::{KeptKinds, kept_opt};

@@ -3,7 +3,7 @@
 ghost use Rattle.std.specs.Prelude.{◌≡◌, ◌≤◌, [], IfOk, Some, false, length};
 ghost use Rattle.std.specs.Option.{option_copied};
 ghost use Rattle.dns_route.specs.declared.kept.KeptKinds.TheVariants.{Subnets};
-ghost use Rattle.dns_route.specs.Kept.{kept_opt};
+ghost use Rattle.dns_route.specs.KeptOptions.{kept_opt};
 ghost use Rattle.dns_route.specs.RequestMessage.{AddsTo, ReadsRequest, Sends, request_error_text, request_of, request_opt, request_sent, sent_opt, sent_size};
 
 use crate::kept::{KeptKinds, kept_opt, plain};
@@ -62,7 +62,7 @@ pub struct RequestMessage {
 impl Model for RequestMessage {
     ghost use Rattle.std.specs.Prelude.{◌≡◌};
     ghost use Rattle.dns_opt.specs.OptRecords.{is_do};
-    ghost use Rattle.dns_route.specs.Kept.{plain_head};
+    ghost use Rattle.dns_route.specs.KeptOptions.{plain_head};
     ghost use Rattle.dns_route.specs.RequestMessage.{RequestState, sent_size};
 
     ghost Value = { RequestState };

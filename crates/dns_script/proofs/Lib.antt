@@ -4,7 +4,7 @@ mod AnswersOn
 pub mod Between
 pub mod Called
 mod FirstRules
-mod Kept
+mod TakenLine
 mod LinesBack
 mod NamesBack
 mod Padded

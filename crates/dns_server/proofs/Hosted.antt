@@ -9,10 +9,10 @@ use Rattle.dns_transport.specs.Hosting.{HostWorld, HostServed, NeitherBegan, Shu
 use Rattle.dns_transport.specs.HostEnd.{HostEnd}
 use Rattle.dns_transport.specs.HostEnd.TheVariants.{Done, OutOfMemory, HostFault}
 use Rattle.dns_account.specs.Hosts.{AcceptTells, SockTells, HostKept}
-use Rattle.dns_account.proofs.Hostings.{host_kept}
+use Rattle.dns_account.proofs.WitnessedHost.{host_kept}
 use Rattle.dns_server.specs.HostStatus.{status_of_host, OfHost}
 use Rattle.dns_server.specs.OverWitnesses.{WorkersKept}
-use Rattle.dns_server.proofs.Kept.{workers_kept}
+use Rattle.dns_server.proofs.WitnessedServers.{workers_kept}
 use Rattle.dns_run.specs.declared.status.Status.{Status}
 use Rattle.dns_run.specs.declared.status.Status.TheVariants.{Done as WholeDone, Usage, Refused, ReadFault, WriteFault, OutOfMemory as NoMemory, TooLong, HostFault as Failed}
 use Rattle.dns_name.specs.declared.address.SocketAddr.{SocketAddr}

@@ -1,4 +1,4 @@
 pub mod Hosted
-pub mod Kept
+pub mod WitnessedServers
 pub mod Noted
 pub mod Replayed

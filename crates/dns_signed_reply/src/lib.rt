@@ -9,7 +9,7 @@
 //!
 //! ```text
 //! reply without DO  answer            authority                          additional
-//! with DO           answer, RRSIGs    authority, DS, NSECs, RRSIGs       additional, RRSIGs where there is room
+//! with DO           answer, RRSIGs    authority, DS, NSECs, RRSIGs       additional, RRSIGs if there is room
 //! ```
 //!
 //! Nothing here makes or verifies a signature: zones are signed elsewhere.

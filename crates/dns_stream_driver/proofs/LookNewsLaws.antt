@@ -16,7 +16,7 @@ use Rattle.dns_session.specs.declared.client.ClientCore.{ClientCore}
 use Rattle.dns_recorder.specs.Own.{is_wide}
 use Rattle.dns_recorder.specs.Notes.{NotedKinds, NotedWide, AllWide}
 use Rattle.dns_recorder.specs.Woven.{kinds, AreNobodys, news_kinds, seen_with}
-use Rattle.dns_recorder.proofs.Notings.{kinds_append}
+use Rattle.dns_recorder.proofs.NotedEvents.{kinds_append}
 use Rattle.dns_stream_driver.specs.Blames.{HeardFor}
 use Rattle.dns_stream_driver.specs.Steps.{LookedOnce, SeesLook, HeardNews}
 

@@ -21,7 +21,7 @@ use Rattle.dns_session.specs.declared.client.State.TheVariants.{Exchange as Is_e
 use Rattle.dns_recorder.specs.Clocks.{fault_count}
 use Rattle.dns_recorder.specs.Notes.{AllWide}
 use Rattle.dns_recorder.specs.Woven.{kinds, own_kinds, news_kinds}
-use Rattle.dns_recorder.proofs.Notings.{kinds_append}
+use Rattle.dns_recorder.proofs.NotedEvents.{kinds_append}
 use Rattle.dns_stream_driver.specs.Closing.{closed_by}
 use Rattle.dns_stream_driver.specs.Links.{pieces_in, frame_octets}
 use Rattle.dns_stream_driver.specs.Rounds.{turned, turned_all}

@@ -18,9 +18,9 @@ use Rattle.dns_stream_driver.specs.Steps.{HeardNews}
 use Rattle.dns_stream_driver.specs.Story.{Broken}
 use Rattle.dns_stream_driver.specs.Turning.{MadeTurn, TurnedPart, TurnedFor, BeginsOpen, ClosingStory, LookedAndActed}
 use Rattle.dns_stream_driver.proofs.Breaking.{broken_heard, broken_acted}
-use Rattle.dns_stream_driver.proofs.Goings.{Goes, goes_heard, goes_acted, heard_cause, acted_cause}
+use Rattle.dns_stream_driver.proofs.ConnectionInvariant.{Goes, goes_heard, goes_acted, heard_cause, acted_cause}
 use Rattle.dns_stream_driver.proofs.Running.{heard_at, run_none, run_heard, run_acted}
-use Rattle.dns_stream_driver.proofs.Showings.{shown_acted, shown_heard}
+use Rattle.dns_stream_driver.proofs.NotedReasons.{shown_acted, shown_heard}
 
 module _ {W R F : Type 0} (answer : PolledRequest F R → ℕ → Answer) (answers : Serving) where
   pub going_begun : (s : Slate) (client : ℕ) (first : Look) (core : ClientCore W R F) (n : List Event) (k : Known) (t : Traffic) → BeginsOpen answer answers core first s → Going answer answers s client first first 0 core n n k k t t

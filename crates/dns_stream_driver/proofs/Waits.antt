@@ -5,7 +5,7 @@ use Rattle.dns_events.specs.declared.event.Event.{Event}
 use Rattle.dns_events.specs.declared.event.EventKind.{EventKind}
 use Rattle.dns_events.specs.declared.event.EventKind.TheVariants.{Turn, Piece, End, Fault, Write, Tick}
 use Rattle.dns_recorder.specs.Clocks.{ClockReading, TookFrom, write_count, TimedOne, Waited, LateAt}
-use Rattle.dns_recorder.proofs.Timings.{timed_one}
+use Rattle.dns_recorder.proofs.EventTimes.{timed_one}
 use Rattle.dns_stream_driver.specs.Links.{IsReadEvent}
 
 pub waited_none : (f : ℕ) (c : List ClockReading) → Waited f f c c

@@ -18,7 +18,7 @@ fn why_closed(out: &Output) -> Option<Why>
 }
 
 /// Why the last of some outputs closes the connection, if it does.
-#[tactic(auto, using(crate::proofs::Closings::closed_last, crate::proofs::Closings::closed_none))]
+#[tactic(auto, using(crate::proofs::ClosingOutput::closed_last, crate::proofs::ClosingOutput::closed_none))]
 pub(crate) fn closed_by(outs: &[Output]) -> Option<Why>
     ensures { result ≡ closed_by outs.now }
 {

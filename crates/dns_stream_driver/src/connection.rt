@@ -121,7 +121,7 @@ fn serve_offer<R: Wait, L: Link, C: Clock, J: Recorder, W: SharedService>(
 /// Serves one connection until it is closed, by a look that shows no shutdown. Then its slot is given back and the link
 /// closed. Each turn is one look and one own event: a frame that waits is written; if none waits, the next request of
 /// this round is polled; if none is left, one read is made, which ends the round.
-#[tactic(auto, using(crate::proofs::Ends::looks_release, crate::proofs::Goings::cause_released))]
+#[tactic(auto, using(crate::proofs::Ends::looks_release, crate::proofs::ConnectionInvariant::cause_released))]
 pub fn serve_connection<R: Wait, L: Link, C: Clock, J: Recorder, W: SharedService>(
     rt: &R,
     alloc: Global,

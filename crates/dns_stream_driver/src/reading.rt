@@ -17,7 +17,7 @@ pub(crate) const ROOM: usize = 1024;
 
 /// Makes one read, and says of which kind its event is: of a Piece, an End or a Fault, or of a Tick after a wait of that many
 /// milliseconds at most, if nothing came yet.
-#[tactic(auto, using(crate::proofs::Movings::moved_piece, crate::proofs::Movings::moved_again, crate::proofs::Movings::moved_end, crate::proofs::Movings::moved_none, crate::proofs::Movings::unread, crate::proofs::Blamings::blames_read, crate::proofs::Blamings::blames_tick, crate::proofs::Blamings::blames_end, crate::proofs::Blamings::blames_fault, crate::proofs::Blamings::whole_got, crate::proofs::Blamings::whole_again, crate::proofs::Blamings::whole_end, crate::proofs::Blamings::whole_fault))]
+#[tactic(auto, using(crate::proofs::LinkTraffic::moved_piece, crate::proofs::LinkTraffic::moved_again, crate::proofs::LinkTraffic::moved_end, crate::proofs::LinkTraffic::moved_none, crate::proofs::LinkTraffic::unread, crate::proofs::CloseCauses::blames_read, crate::proofs::CloseCauses::blames_tick, crate::proofs::CloseCauses::blames_end, crate::proofs::CloseCauses::blames_fault, crate::proofs::CloseCauses::whole_got, crate::proofs::CloseCauses::whole_again, crate::proofs::CloseCauses::whole_end, crate::proofs::CloseCauses::whole_fault))]
 fn read_kind<R: Wait, L: Link>(
     rt: &R,
     alloc: Global,

@@ -36,7 +36,7 @@ fn wait_for_room<R: Wait, L: Link, C: Clock>(
 
 /// One write of what is left of a frame of which so much is done, and a wait if that answered Again. The answer is how many
 /// octets were written, or how the writing of the frame ended.
-#[tactic(auto, using(crate::proofs::Movings::wrote_none, crate::proofs::Waits::waited_none, crate::proofs::Blamings::end_whole, crate::proofs::Blamings::again_whole, crate::proofs::Writings::took_no_time, crate::proofs::Writings::took_no_room, crate::proofs::Writings::waited_once, crate::proofs::Writings::wrote_nothing, crate::proofs::Writings::late_once, crate::proofs::Writings::room_once, crate::proofs::Writings::none_failed, crate::proofs::Blamings::end_late, crate::proofs::Blamings::end_failed, crate::proofs::Blamings::again_failed, crate::proofs::Blamings::again_late))]
+#[tactic(auto, using(crate::proofs::LinkTraffic::wrote_none, crate::proofs::Waits::waited_none, crate::proofs::CloseCauses::end_whole, crate::proofs::CloseCauses::again_whole, crate::proofs::FrameWrites::took_no_time, crate::proofs::FrameWrites::took_no_room, crate::proofs::FrameWrites::waited_once, crate::proofs::FrameWrites::wrote_nothing, crate::proofs::FrameWrites::late_once, crate::proofs::FrameWrites::room_once, crate::proofs::FrameWrites::none_failed, crate::proofs::CloseCauses::end_late, crate::proofs::CloseCauses::end_failed, crate::proofs::CloseCauses::again_failed, crate::proofs::CloseCauses::again_late))]
 fn write_some<R: Wait, L: Link, C: Clock>(
     rt: &R,
     link: &mut L,
@@ -79,7 +79,7 @@ fn write_some<R: Wait, L: Link, C: Clock>(
 }
 
 /// Writes the frame, and says how that ended. It is late if more than the limit has passed since the start.
-#[tactic(auto, using(crate::proofs::Movings::wrote_none, crate::proofs::Waits::waited_none))]
+#[tactic(auto, using(crate::proofs::LinkTraffic::wrote_none, crate::proofs::Waits::waited_none))]
 fn write_frame<R: Wait, L: Link, C: Clock>(
     rt: &R,
     link: &mut L,
@@ -121,7 +121,7 @@ fn written(client: u64, start: u64, at: u64, secs: u64) -> Event
 }
 
 /// Writes the first frame of a queue. The event is a Write, or a Fault if a call failed.
-#[tactic(auto, using(crate::proofs::Movings::moved_whole, crate::proofs::Movings::moved_late, crate::proofs::Movings::moved_failed, crate::proofs::Waits::timed_whole, crate::proofs::Waits::timed_late, crate::proofs::Waits::timed_failed, crate::proofs::Blamings::blames_whole, crate::proofs::Blamings::blames_late, crate::proofs::Blamings::blames_failed, crate::proofs::Blamings::whole_written, crate::proofs::Blamings::whole_late, crate::proofs::Blamings::whole_failed))]
+#[tactic(auto, using(crate::proofs::LinkTraffic::moved_whole, crate::proofs::LinkTraffic::moved_late, crate::proofs::LinkTraffic::moved_failed, crate::proofs::Waits::timed_whole, crate::proofs::Waits::timed_late, crate::proofs::Waits::timed_failed, crate::proofs::CloseCauses::blames_whole, crate::proofs::CloseCauses::blames_late, crate::proofs::CloseCauses::blames_failed, crate::proofs::CloseCauses::whole_written, crate::proofs::CloseCauses::whole_late, crate::proofs::CloseCauses::whole_failed))]
 pub(crate) fn write_event<R: Wait, L: Link, C: Clock>(
     rt: &R,
     client: u64,

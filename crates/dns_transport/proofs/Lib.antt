@@ -1,3 +1,3 @@
 mod Awaiting
-mod Joinings
+mod JoinedWork
 mod SeatLaws

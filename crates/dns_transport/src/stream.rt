@@ -255,7 +255,7 @@ where
 {
     /// Accepts connections until a look shows a shutdown. Then it waits by `join_all` for those that are served. No clause says
     /// that they have ended.
-    #[tactic(auto, using(crate::proofs::Joinings::not_counted, crate::proofs::Joinings::ran_joined))]
+    #[tactic(auto, using(crate::proofs::JoinedWork::not_counted, crate::proofs::JoinedWork::ran_joined))]
     pub fn run<R: Threads + Wait + Copy + Send + 'static>(
         &mut self,
         rt: &R,

@@ -1,3 +1,3 @@
 pub mod OneByOne
-pub mod Workings
-pub mod Causings
+pub mod ServedWorkers
+pub mod HostEndCauses

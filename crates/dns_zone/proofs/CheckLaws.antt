@@ -7,7 +7,7 @@ use Rattle.std.proofs.lemmas.Iterator.Adapters.{position_from-zero}
 use Rattle.std.proofs.lemmas.List.Elements.{filter_agree}
 use Rattle.dns_message.specs.declared.record.Record.{Record}
 use Rattle.dns_zone.specs.declared.name_places.NamePlaces.{NamePlaces}
-use Rattle.dns_zone.specs.Kept.{KnowsPlaces, places_under}
+use Rattle.dns_zone.specs.ZoneIndex.{KnowsPlaces, places_under}
 use Rattle.dns_zone.specs.Owned.{is_asked, is_of, is_owned}
 use Rattle.dns_zone.specs.Paths.{name_path}
 use Rattle.dns_zone.specs.ZoneErrors.{is_crowded}

@@ -12,7 +12,7 @@ use Rattle.dns_message.specs.declared.record.Record.{Record}
 use Rattle.dns_route.specs.Routes.{ends_name}
 use Rattle.dns_zone.specs.declared.name_places.NamePlaces.{NamePlaces}
 use Rattle.dns_zone.specs.Cuts.{cut_records, delegates, is_cut_off, is_shortest}
-use Rattle.dns_zone.specs.Kept.{IsInZone, KnowsPlaces, places_under, stands_under}
+use Rattle.dns_zone.specs.ZoneIndex.{IsInZone, KnowsPlaces, places_under, stands_under}
 use Rattle.dns_zone.specs.Owned.{ZoneState, is_of}
 use Rattle.dns_zone.specs.Paths.{marked, name_path}
 use Rattle.dns_zone.specs.Places.{at_places, places}

@@ -8,7 +8,7 @@ use Rattle.dns_route.specs.Routes.{ends_name}
 use Rattle.dns_zone.specs.declared.error.ZoneError.{ZoneError}
 use Rattle.dns_zone.specs.declared.error.ZoneError.TheVariants.{Outside, Class, Opt, Soa, SoaPlace, Cname, OutOfMemory as NoMemory}
 use Rattle.dns_zone.specs.Defects.{list_error, refused}
-use Rattle.dns_zone.specs.Kept.{IsInZone}
+use Rattle.dns_zone.specs.ZoneIndex.{IsInZone}
 use Rattle.dns_zone.specs.Owned.{ZoneState, is_of}
 use Rattle.dns_zone.specs.ZoneErrors.{Makes, first_cause, has_other_class, is_crowded, is_misplaced, is_outside, miscounted, zone_error}
 use Rattle.dns_zone.proofs.PathLaws.{true_eq}

@@ -20,7 +20,7 @@ use Rattle.dns_message.specs.declared.record.Record.{Record}
 use Rattle.dns_base.specs.Records.{data_type}
 use Rattle.dns_route.specs.Routes.{ends_name}
 use Rattle.dns_zone.specs.declared.name_places.NamePlaces.{NamePlaces}
-use Rattle.dns_zone.specs.Kept.{KnowsPlaces, Puts, begins_at, is_at, kinds_under, places_in, places_under, stands_under}
+use Rattle.dns_zone.specs.ZoneIndex.{KnowsPlaces, Puts, begins_at, is_at, kinds_under, places_in, places_under, stands_under}
 use Rattle.dns_zone.specs.Owned.{is_asked, is_of}
 use Rattle.dns_zone.specs.Paths.{name_path}
 use Rattle.dns_zone.specs.Places.{Kinds, kind_places, places}

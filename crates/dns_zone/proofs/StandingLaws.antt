@@ -3,7 +3,7 @@ use Rattle.std.proofs.Common.{◌≡◌, ℕ, List, Option, Some, None, false, a
 use Rattle.dns_zone.specs.declared.cuts.Standing.{Standing}
 use Rattle.dns_zone.specs.declared.cuts.Standing.TheVariants.{Cut, Owner, Nothing}
 use Rattle.dns_zone.specs.Cuts.{is_cut_off}
-use Rattle.dns_zone.specs.Kept.{places_in}
+use Rattle.dns_zone.specs.ZoneIndex.{places_in}
 use Rattle.dns_zone.specs.Owned.{ZoneState}
 use Rattle.dns_zone.specs.Places.{Kinds}
 use Rattle.dns_zone.specs.Standings.{Owns, OwnsSo, StandsSo}

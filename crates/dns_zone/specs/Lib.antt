@@ -13,7 +13,7 @@ pub mod ZoneErrors
 pub mod ErrorTexts
 pub mod Paths
 pub mod Places
-pub mod Kept
+pub mod ZoneIndex
 pub mod Found
 pub mod Standings
 pub mod Defects

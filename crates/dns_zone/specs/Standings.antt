@@ -3,7 +3,7 @@ use Rattle.std.specs.Prelude.{ℕ, ◌≡◌, true, false, List, Option, Some, N
 use Rattle.dns_zone.specs.declared.cuts.Standing.{Standing}
 use Rattle.dns_zone.specs.declared.cuts.Standing.TheVariants.{Cut, Owner, Nothing}
 use Rattle.dns_zone.specs.Cuts.{cut_records, is_cut_off}
-use Rattle.dns_zone.specs.Kept.{places_in}
+use Rattle.dns_zone.specs.ZoneIndex.{places_in}
 use Rattle.dns_zone.specs.Owned.{ZoneState, is_asked}
 use Rattle.dns_zone.specs.Places.{Kinds, at_places, places}
 

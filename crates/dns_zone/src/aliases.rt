@@ -6,7 +6,7 @@ ghost use Rattle.std.specs.Option.{option_copied};
 ghost use Rattle.dns_route.specs.Routes.{ends_name};
 ghost use Rattle.dns_zone.specs.Aliases.{followed};
 ghost use Rattle.dns_zone.specs.Cuts.{is_cut_off};
-ghost use Rattle.dns_zone.specs.Kept.{IsSought};
+ghost use Rattle.dns_zone.specs.ZoneIndex.{IsSought};
 ghost use Rattle.dns_zone.specs.Owned.{target};
 ghost use Rattle.dns_zone.specs.Paths.{name_path};
 ghost use Rattle.dns_zone.specs.Places.{at_places};

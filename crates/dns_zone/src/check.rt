@@ -5,7 +5,7 @@ ghost use Rattle.std.specs.List.{AllByRecursion, filter, position};
 ghost use Rattle.dns_route.specs.Routes.{ends_name};
 ghost use Rattle.dns_message.specs.declared.record.Record.{Record};
 ghost use Rattle.dns_zone.specs.Defects.{has_defect, list_error, refused, soa_error};
-ghost use Rattle.dns_zone.specs.Kept.{KnowsPlaces};
+ghost use Rattle.dns_zone.specs.ZoneIndex.{KnowsPlaces};
 ghost use Rattle.dns_zone.specs.Owned.{HasNamedData, ZoneState, is_of};
 ghost use Rattle.dns_zone.specs.ZoneErrors.{Makes, is_crowded, zone_error};
 

@@ -4,7 +4,7 @@ ghost use Rattle.std.specs.Prelude.{◌≡◌, ◌<◌, [], length, true, false,
 ghost use Rattle.std.specs.List.{list_any};
 ghost use Rattle.std.specs.Option.{option_copied};
 ghost use Rattle.dns_zone.specs.Cuts.{cut_records, is_cut_off};
-ghost use Rattle.dns_zone.specs.Kept.{IsSought, begins_at, places_in};
+ghost use Rattle.dns_zone.specs.ZoneIndex.{IsSought, begins_at, places_in};
 ghost use Rattle.dns_zone.specs.Owned.{is_asked};
 ghost use Rattle.dns_zone.specs.Standings.{OwnsSo, StandsSo};
 ghost use Rattle.dns_zone.specs.Paths.{name_path};

@@ -2,7 +2,7 @@
 
 ghost use Rattle.std.specs.Prelude.{◌≡◌, [], ◌∷◌, length, map, IfOk, OnOk};
 ghost use Rattle.std.specs.List.{AllByRecursion, filter};
-ghost use Rattle.dns_zone.specs.Kept.{KnowsPlaces};
+ghost use Rattle.dns_zone.specs.ZoneIndex.{KnowsPlaces};
 ghost use Rattle.dns_zone.specs.Owned.{HasNamedData, is_of};
 ghost use Rattle.dns_zone.specs.ZoneReply.{negative_soa, negative_ttl};
 

@@ -20,7 +20,7 @@ impl NamePlaces {
     ghost use Rattle.std.specs.List.{list_any};
     ghost use Rattle.dns_message.specs.declared.record.Record.{Record};
     ghost use Rattle.std.specs.Option.{option_copied};
-    ghost use Rattle.dns_zone.specs.Kept.{KnowsPlaces, Puts, begins_at, kinds_under, places_under};
+    ghost use Rattle.dns_zone.specs.ZoneIndex.{KnowsPlaces, Puts, begins_at, kinds_under, places_under};
 
     /// An index of no records.
     pub(crate) fn new(alloc: Global) -> NamePlaces

@@ -9,7 +9,7 @@ ghost use Rattle.dns_message.specs.declared.question.Question.{Question};
 ghost use Rattle.dns_route.specs.Routes.{ends_name};
 ghost use Rattle.dns_zone.specs.Aliases.{followed};
 ghost use Rattle.dns_zone.specs.Cuts.{is_cut_off};
-ghost use Rattle.dns_zone.specs.Kept.{IsSought};
+ghost use Rattle.dns_zone.specs.ZoneIndex.{IsSought};
 ghost use Rattle.dns_zone.specs.Paths.{name_path};
 ghost use Rattle.dns_zone.specs.Places.{at_places};
 ghost use Rattle.dns_zone.specs.Standings.{Owns};

@@ -29,7 +29,7 @@ pub struct Zone {
 
 impl Model for Zone {
     ghost use Rattle.dns_zone.specs.Owned.{ZoneState};
-    ghost use Rattle.dns_zone.specs.Kept.{IsZone};
+    ghost use Rattle.dns_zone.specs.ZoneIndex.{IsZone};
 
     ghost Value = { ZoneState };
 

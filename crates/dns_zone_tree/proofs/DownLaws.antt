@@ -6,7 +6,7 @@ use Rattle.dns_name.specs.Canonical.{same_name, same_name_equiv}
 use Rattle.dns_message.specs.declared.record.Record.{Record}
 use Rattle.dns_order.specs.Keys.{canonical_key}
 use Rattle.dns_route.specs.Routes.{ends_name}
-use Rattle.dns_zone.specs.Kept.{IsInZone}
+use Rattle.dns_zone.specs.ZoneIndex.{IsInZone}
 use Rattle.dns_zone.specs.Owned.{ZoneState, asked_records, is_asked, is_of, is_owned}
 use Rattle.dns_zone.specs.ZoneReply.{exists, negative_soa}
 use Rattle.dns_zone.proofs.KeepLaws.{any_weaker}

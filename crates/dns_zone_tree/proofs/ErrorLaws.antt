@@ -8,7 +8,7 @@ use Rattle.dns_base.specs.Records.{IsLawful, data_type}
 use Rattle.dns_message.specs.declared.record.Record.{Record}
 use Rattle.dns_order.specs.Keys.{canonical_key}
 use Rattle.dns_route.specs.Routes.{ends_name}
-use Rattle.dns_zone.specs.Kept.{IsInZone}
+use Rattle.dns_zone.specs.ZoneIndex.{IsInZone}
 use Rattle.dns_zone.specs.Owned.{AreLawful, HasLawfulData, ZoneState, is_asked, is_of, is_owned}
 use Rattle.dns_zone.specs.Places.{places}
 use Rattle.dns_zone.specs.ZoneErrors.{has_other_class, is_misplaced, is_outside}

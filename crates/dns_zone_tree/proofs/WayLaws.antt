@@ -6,7 +6,7 @@ use Rattle.std.proofs.lemmas.List.{drop_more, length-drop, nil_from_length}
 use Rattle.dns_name.specs.Canonical.{same_name}
 use Rattle.dns_message.specs.declared.record.Record.{Record}
 use Rattle.dns_route.specs.Routes.{ends_name}
-use Rattle.dns_zone.specs.Kept.{IsInZone}
+use Rattle.dns_zone.specs.ZoneIndex.{IsInZone}
 use Rattle.dns_zone.specs.Owned.{ZoneState, asked_records, is_asked, is_of}
 use Rattle.dns_zone.specs.Places.{at_places, places}
 use Rattle.dns_zone.specs.ZoneReply.{exists, negative_soa}

@@ -4,7 +4,7 @@ use Rattle.std.specs.List.{AllByRecursion, filter, list_any, position}
 use Rattle.dns_message.specs.declared.record.Record.{Record}
 use Rattle.dns_order.specs.Keys.{canonical_key}
 use Rattle.dns_route.specs.Routes.{ends_name}
-use Rattle.dns_zone.specs.Kept.{IsInZone}
+use Rattle.dns_zone.specs.ZoneIndex.{IsInZone}
 use Rattle.dns_zone.specs.Owned.{AreLawful, is_asked, is_of}
 use Rattle.dns_zone.specs.Places.{places}
 use Rattle.dns_zone.specs.ZoneReply.{negative_soa}

@@ -12,7 +12,7 @@
 //! each name that owns records. A name above one exists without a node: its key begins the next one.
 //!
 //! ```text
-//! apex -> label -> label -> name          Node: its records | Missing: behind its closest encloser
+//! apex -> label -> label -> name          Node: its records | Missing: below its closest encloser
 //!          |        |
 //!          |        DNAME records: Dname, and nothing below is reached
 //!          NS records: Cut, and nothing below is reached

@@ -3,7 +3,7 @@
 ghost use Rattle.std.specs.Prelude.{◌≡◌, ◌∷◌, [], length, map, None, IfOk};
 ghost use Rattle.std.specs.List.{AllByRecursion, filter, position};
 ghost use Rattle.dns_base.specs.Records.{IsLawful};
-ghost use Rattle.dns_zone.specs.Kept.{IsInZone};
+ghost use Rattle.dns_zone.specs.ZoneIndex.{IsInZone};
 ghost use Rattle.dns_zone.specs.Owned.{AreLawful, is_of};
 ghost use Rattle.dns_zone.specs.ZoneReply.{negative_soa};
 ghost use Rattle.dns_zone_tree.specs.Long.{is_long};

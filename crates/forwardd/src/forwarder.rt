@@ -184,7 +184,7 @@ impl<R: Net + rt::Clock + RandomSource + Copy> Forwarder<R> {
 
     // ---- the end
 
-    /// What wakes the forwarder where it is to end.
+    /// What wakes the forwarder when it is to end.
     pub(crate) fn waker(&self) -> io::Result<Waker> {
         Waker::new(self.poll.registry(), STOP)
     }
@@ -290,7 +290,7 @@ impl<R: Net + rt::Clock + RandomSource + Copy> Forwarder<R> {
         }
     }
 
-    /// Takes the connections at each listener where that failed, once it is due.
+    /// Takes the connections at each listener at which that failed, once it is due.
     fn accept_again(&mut self) {
         let (at, _) = self.clock.latest();
         for _ in 0..self.clients.count_listeners() {

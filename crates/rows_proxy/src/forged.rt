@@ -1,6 +1,6 @@
 //! A query that is sent many forged answers.
 
-use crate::made::{CLIENT, UPSTREAM, next_proxy};
+use crate::row_proxies::{CLIENT, UPSTREAM, next_proxy};
 use dns_fronts::{CachedFront, ServerFront};
 use dns_name::{Octets, SocketAddr};
 use dns_proxy::{

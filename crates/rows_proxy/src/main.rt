@@ -2,8 +2,8 @@
 #![tactic(auto)]
 
 mod forged;
-mod made;
 mod proxies;
+mod row_proxies;
 
 use forged::Forged;
 use proxies::Proxies;

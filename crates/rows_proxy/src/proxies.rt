@@ -1,6 +1,6 @@
 //! Rows of proxies that steps are taken with.
 
-use crate::made::{CLIENT, UPSTREAM, next_cookies, next_network, next_proxy, next_secret};
+use crate::row_proxies::{CLIENT, UPSTREAM, next_cookies, next_network, next_proxy, next_secret};
 use dns_fronts::{CachedFront, Network, ServerFront};
 use dns_name::{Octets, OutOfMemory, SocketAddr};
 use dns_proxy::{

@@ -34,7 +34,7 @@ mod configuration;
 mod load;
 mod measures;
 mod orders;
-mod served;
+mod served_config;
 mod server;
 mod words;
 

@@ -1,6 +1,6 @@
 //! What is measured of a server, as its page of metrics reports it.
 
-use crate::served::ServedConfig;
+use crate::served_config::ServedConfig;
 use dns_config::ZoneEntry;
 use dns_generation::ZoneSummary;
 use dns_listener::{Counters, Numbers};

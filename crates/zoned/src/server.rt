@@ -3,7 +3,7 @@
 use crate::load::report;
 use crate::measures::{Measures, Shown};
 use crate::orders::{Order, hear};
-use crate::served::ServedConfig;
+use crate::served_config::ServedConfig;
 use anyhow::Context;
 use dns_config::Config;
 use dns_control::{Caller, Control};

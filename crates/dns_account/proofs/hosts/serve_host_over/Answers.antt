@@ -1,7 +1,7 @@
 use denote.Exit.{no}
 use denote.Param.{param}
 use denote.Param.Send.{param_send, arg_send}
-use Rattle.dns_account.proofs.Hostings.{host_kept}
+use Rattle.dns_account.proofs.WitnessedHost.{host_kept}
 use Rattle.dns_account.proofs.Sends.{sock_send, clock_send, link_send}
 use Rattle.dns_account.proofs.hosts.serve_host_over.Goals as goal
 

@@ -4,6 +4,6 @@ use Rattle.dns_cache.proofs.aged.push_aged.Given as goal
 
 abbrev pub invariant-marks : goal.invariant-marks
 invariant-marks l = record {
-  told : l.target.items ++ aged_octets l.age (drop l.mark-index l.marks) l.left ≡ l.fn.target.items ++ aged_octets l.age l.marks l.records;
+  so_far : l.target.items ++ aged_octets l.age (drop l.mark-index l.marks) l.left ≡ l.fn.target.items ++ aged_octets l.age l.marks l.records;
   fit : MarksFit (drop l.mark-index l.marks) l.left;
 }

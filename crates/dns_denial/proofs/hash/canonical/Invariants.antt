@@ -4,7 +4,7 @@ use Rattle.dns_denial.proofs.hash.canonical.Given as goal
 
 abbrev pub invariant-labels : goal.invariant-labels
 invariant-labels l = record {
-  told : l.octets.items ++ spell (folded l.left) ≡ spell (folded l.fn.labels);
+  so_far : l.octets.items ++ spell (folded l.left) ≡ spell (folded l.fn.labels);
   fits : AreLabels l.left;
 }
 

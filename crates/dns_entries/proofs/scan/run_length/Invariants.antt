@@ -5,5 +5,5 @@ use Rattle.dns_entries.proofs.scan.run_length.Given as goal
 abbrev pub invariant-loop-octet : goal.invariant-loop-octet
 invariant-loop-octet l = record {
   place : l.count ≡ l.octet-index;
-  told : l.count + length (run_in l.mode (drop l.octet-index l.text)) ≡ length (run_in l.mode l.text);
+  so_far : l.count + length (run_in l.mode (drop l.octet-index l.text)) ≡ length (run_in l.mode l.text);
 }

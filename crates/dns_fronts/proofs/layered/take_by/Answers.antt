@@ -13,7 +13,7 @@ use Rattle.dns_service.specs.declared.service.CallResult.{CallResult}
 use Rattle.dns_proxy.specs.Fronts.{IsTaken}
 use Rattle.dns_fronts.specs.Layered.{asked_message, layered, no_verdict, no_zones, sendable}
 use Rattle.dns_fronts.specs.Passed.{passed_to}
-use Rattle.dns_fronts.proofs.Takings.{notice-taken, own-taken, pass-taken}
+use Rattle.dns_fronts.proofs.LayerDecisions.{notice-taken, own-taken, pass-taken}
 use Rattle.dns_fronts.proofs.layered.take_by.Goals as goal
 
 pub returns-in-Ok-Own-clause-taken : goal.returns-in-Ok-Own-clause-taken

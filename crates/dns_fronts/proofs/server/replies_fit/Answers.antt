@@ -1,7 +1,7 @@
 -- What is sent for a query over UDP fits.
 use Rattle.dns_service.specs.Req.{Req}
 use Rattle.dns_middleware.specs.Wrapped.{hint_left}
-use Rattle.dns_fronts.proofs.Servings.{classic-limit, sent-fits}
+use Rattle.dns_fronts.proofs.ServerReplyLaws.{classic-limit, sent-fits}
 use Rattle.dns_fronts.specs.Caching.{cached_asks, cached_over}
 use Rattle.dns_fronts.specs.Required.{settings_for}
 use Rattle.dns_fronts.specs.ServerReplies.{sized_request}

@@ -4,7 +4,7 @@ use Rattle.dns_message.proofs.write.push_labels.Given as goal
 
 abbrev pub invariant-labels : goal.invariant-labels
 invariant-labels l = record {
-  told : l.target.items ++ spell l.labels ≡ l.fn.target.items ++ spell l.fn.labels;
+  so_far : l.target.items ++ spell l.labels ≡ l.fn.target.items ++ spell l.fn.labels;
   fits : AreLabels l.labels;
   before : take (length l.fn.target.items) l.target.items ≡ l.fn.target.items;
   longer : length l.fn.target.items ≤ length l.target.items;

@@ -4,7 +4,7 @@ use Rattle.dns_name_server.proofs.names.spelt.Given as goal
 
 abbrev pub invariant-labels : goal.invariant-labels
 invariant-labels l = record {
-  told : l.octets.items ++ spell l.labels ≡ spell l.fn.labels;
+  so_far : l.octets.items ++ spell l.labels ≡ spell l.fn.labels;
   room : length l.octets.items + length (spell l.labels) ≤ 255;
 }
 

@@ -6,7 +6,7 @@ use Rattle.dns_order.proofs.key.push_label.Given as goal
 abbrev pub invariant-octets : goal.invariant-octets
 invariant-octets l = record {
   within : l.left ≤ length l.label;
-  told : l.octets.items ≡ l.fn.octets.items ++ reverse (label_key (map to_ascii_lowercase (drop l.left l.label)));
+  so_far : l.octets.items ≡ l.fn.octets.items ++ reverse (label_key (map to_ascii_lowercase (drop l.left l.label)));
 }
 
 abbrev pub decreases-octets : goal.decreases-octets

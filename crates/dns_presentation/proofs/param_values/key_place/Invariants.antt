@@ -5,5 +5,5 @@ use Rattle.dns_presentation.proofs.param_values.key_place.Given as goal
 abbrev pub invariant-loop-other : goal.invariant-loop-other
 invariant-loop-other l = record {
   place : l.at ≡ l.other-index;
-  told : l.at + key_place l.key (drop l.other-index l.keys) ≡ key_place l.key l.keys;
+  so_far : l.at + key_place l.key (drop l.other-index l.keys) ≡ key_place l.key l.keys;
 }

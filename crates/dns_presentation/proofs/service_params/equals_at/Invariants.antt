@@ -5,5 +5,5 @@ use Rattle.dns_presentation.proofs.service_params.equals_at.Given as goal
 abbrev pub invariant-loop-octet : goal.invariant-loop-octet
 invariant-loop-octet l = record {
   place : l.at ≡ l.octet-index;
-  told : l.at + equals_at (drop l.octet-index l.word) ≡ equals_at l.word;
+  so_far : l.at + equals_at (drop l.octet-index l.word) ≡ equals_at l.word;
 }

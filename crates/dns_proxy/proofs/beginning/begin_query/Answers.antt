@@ -5,7 +5,7 @@ use Rattle.dns_base.specs.Header.{header_of}
 use Rattle.dns_service.specs.Answer.{Item}
 use Rattle.dns_proxy.specs.Coming.{message_of, outputs_to, refused_by}
 use Rattle.dns_proxy.specs.Fronts.{fronting}
-use Rattle.dns_proxy.proofs.Beginnings.{as_request, as_response, as_short, front_after, front_left, request_read, response, short}
+use Rattle.dns_proxy.proofs.ClientMessages.{as_request, as_response, as_short, front_after, front_left, request_read, response, short}
 use Rattle.dns_proxy.proofs.beginning.begin_query.Goals as goal
 
 pub returns-in_default-clause-begun : goal.returns-in_default-clause-begun

@@ -3,7 +3,7 @@ use Rattle.std.proofs.Common.{subst}
 use Rattle.std.proofs.lemmas.Result.{IfOk-weaker}
 use Rattle.dns_proxy.specs.declared.front.Taken.TheVariants.{Own, Passed}
 use Rattle.dns_proxy.specs.Fronts.{fronting, IsTaken}
-use Rattle.dns_proxy.proofs.Beginnings.{asks_begins, sent_begins}
+use Rattle.dns_proxy.proofs.ClientMessages.{asks_begins, sent_begins}
 use Rattle.dns_proxy.proofs.beginning.take.Goals as goal
 
 pub returns-in-Own-clause-begun : goal.returns-in-Own-clause-begun

@@ -1,4 +1,4 @@
-use Rattle.dns_rate_limit.proofs.Kept.{by_own}
+use Rattle.dns_rate_limit.proofs.TableAccounts.{by_own}
 use Rattle.dns_rate_limit.proofs.laws.clients_are_limited_by_their_own.Goals as goal
 
 pub returns : goal.returns

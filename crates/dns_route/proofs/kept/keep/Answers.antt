@@ -1,6 +1,6 @@
 use Rattle.std.proofs.Common.{◌≡◌, true, sym, ap, ◌∙◌}
 use Rattle.dns_opt.specs.OptRecords.{opt_state}
-use Rattle.dns_route.specs.Kept.{keeps, kept_of_list}
+use Rattle.dns_route.specs.KeptOptions.{keeps, kept_of_list}
 use Rattle.dns_route.proofs.KeptLaws.{ended, has_room, kept_one}
 use Rattle.dns_route.proofs.kept.keep.Goals as goal
 

@@ -5,7 +5,7 @@ use Rattle.dns_routes.proofs.places.folded_octets.Given as goal
 
 abbrev pub invariant-labels : goal.invariant-labels
 invariant-labels l = record {
-  told : l.octets.items ++ name_key l.left ≡ name_key l.fn.name;
+  so_far : l.octets.items ++ name_key l.left ≡ name_key l.fn.name;
   fits : AreLabels l.left;
 }
 

@@ -5,7 +5,7 @@ use Rattle.dns_script.proofs.cached_rules.ask_request.Goals as goal
 
 pub loop-k-init : goal.loop-k-init
 loop-k-init c = record {
-  told = called_first (rule_turns c.args.turns.now.rules) c.args.request.now c.args.cache.now;
+  so_far = called_first (rule_turns c.args.turns.now.rules) c.args.request.now c.args.cache.now;
   made = refl;
   few = omega arith;
 }
@@ -15,8 +15,8 @@ loop-k-preserved c =
     let answers = rule_turns c.args.turns.now.rules in
     let r = c.args.request.now in
     record {
-      told = called_on answers r c.loop-k.k c.loop-k.cache c.call.new.cache c.args.cache.now c.loop-k-test.true
-          (sym (rw c.in_default.is at c.in_ok-line.ensures.line)) c.in_ok-line.ensures.cached c.loop-k.invariant.told;
+      so_far = called_on answers r c.loop-k.k c.loop-k.cache c.call.new.cache c.args.cache.now c.loop-k-test.true
+          (sym (rw c.in_default.is at c.in_ok-line.ensures.line)) c.in_ok-line.ensures.cached c.loop-k.invariant.so_far;
       made = behind_more answers r c.loop-k.k c.loop-k.cache c.call.new.cache c.args.cache.now c.loop-k.invariant.made c.in_ok-line.ensures.cached;
       few = omega (arith, c.loop-k-test.true);
     }

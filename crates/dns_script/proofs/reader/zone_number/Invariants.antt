@@ -5,7 +5,7 @@ use Rattle.dns_script.proofs.reader.zone_number.Given as goal
 
 abbrev pub invariant-loop-rest : goal.invariant-loop-rest
 invariant-loop-rest l = record {
-  told : zone_number l.line (lines l.rest) ≡ zone_number 0 (lines l.text);
+  so_far : zone_number l.line (lines l.rest) ≡ zone_number 0 (lines l.text);
   few : l.line + length l.rest ≤ length l.text;
 }
 

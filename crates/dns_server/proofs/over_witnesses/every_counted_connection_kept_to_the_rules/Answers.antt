@@ -1,4 +1,4 @@
-use Rattle.dns_account.proofs.Closings.{end_seen}
+use Rattle.dns_account.proofs.CloseReasons.{end_seen}
 use Rattle.dns_account.proofs.Lawful.{lawful}
 use Rattle.dns_server.proofs.over_witnesses.every_counted_connection_kept_to_the_rules.Goals as goal
 

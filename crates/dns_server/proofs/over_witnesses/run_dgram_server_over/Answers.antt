@@ -1,4 +1,4 @@
-use Rattle.dns_server.proofs.Kept.{server_kept}
+use Rattle.dns_server.proofs.WitnessedServers.{server_kept}
 use Rattle.dns_server.proofs.over_witnesses.run_dgram_server_over.Goals as goal
 
 pub returns-clause-kept : goal.returns-clause-kept

@@ -1,7 +1,7 @@
 use Rattle.dns_service.specs.PolledRequest.{request_answer}
 use Rattle.dns_session.specs.Serving.{serving}
 use Rattle.dns_stream_driver.specs.Rounds.{below_of}
-use Rattle.dns_stream_driver.proofs.Actings.{acted_told, acted_clock, acted_blame, acted_again, acted_part}
+use Rattle.dns_stream_driver.proofs.OwnEvents.{acted_told, acted_clock, acted_blame, acted_again, acted_part}
 use Rattle.dns_stream_driver.proofs.acting.act.Goals as goal
 
 pub returns-in-Ok-clause-observed : goal.returns-in-Ok-clause-observed

@@ -1,7 +1,7 @@
 -- The frame that stands first is written.
 use Rattle.dns_service.specs.PolledRequest.{request_answer}
 use Rattle.dns_stream_driver.specs.Rounds.{below_of}
-use Rattle.dns_stream_driver.proofs.Blamings.{for_write, first_write}
+use Rattle.dns_stream_driver.proofs.CloseCauses.{for_write, first_write}
 use Rattle.dns_stream_driver.proofs.Choices.{chosen_write}
 use Rattle.dns_stream_driver.proofs.acting.own_event.Goals as goal
 

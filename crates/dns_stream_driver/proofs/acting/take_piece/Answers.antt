@@ -2,7 +2,7 @@ use Rattle.std.proofs.Common.{sym}
 use Rattle.dns_service.specs.PolledRequest.{request_answer}
 use Rattle.dns_session.specs.Outputs.{outputs_in}
 use Rattle.dns_session.specs.Serving.{serving}
-use Rattle.dns_stream_driver.proofs.Actings.{takes}
+use Rattle.dns_stream_driver.proofs.OwnEvents.{takes}
 use Rattle.dns_stream_driver.proofs.acting.take_piece.Goals as goal
 
 pub returns-in-Ok : goal.returns-in-Ok

@@ -1,8 +1,8 @@
 use Rattle.std.proofs.Common.{arith}
 use Rattle.dns_service.specs.PolledRequest.{request_answer}
 use Rattle.dns_stream_driver.specs.Rounds.{below_of}
-use Rattle.dns_stream_driver.proofs.Actings.{read_chosen, read_blame, read_again}
-use Rattle.dns_stream_driver.proofs.Blamings.{first_turn, for_turn}
+use Rattle.dns_stream_driver.proofs.OwnEvents.{read_chosen, read_blame, read_again}
+use Rattle.dns_stream_driver.proofs.CloseCauses.{first_turn, for_turn}
 use Rattle.dns_stream_driver.proofs.Choices.{chosen_turn}
 use Rattle.dns_stream_driver.proofs.Waits.{timed_turn}
 use Rattle.dns_stream_driver.proofs.acting.turn_or_read.Goals as goal

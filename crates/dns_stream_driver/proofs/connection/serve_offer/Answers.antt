@@ -1,7 +1,7 @@
 use Rattle.dns_events.specs.declared.event.Why.{Why}
 use Rattle.dns_session.specs.Serving.{serving}
 use Rattle.dns_recorder.specs.Clocks.{Timed}
-use Rattle.dns_recorder.proofs.Timings.{timed_then, timed_shift}
+use Rattle.dns_recorder.proofs.EventTimes.{timed_then, timed_shift}
 use Rattle.dns_stream_driver.specs.Endings.{WasOffered, Unserved, ShownFrom}
 use Rattle.dns_stream_driver.specs.Story.{Broken, began}
 use Rattle.dns_stream_driver.specs.Turning.{ClosingStory}

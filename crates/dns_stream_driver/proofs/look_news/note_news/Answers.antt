@@ -1,4 +1,4 @@
-use Rattle.dns_recorder.proofs.Timings.{timed_then}
+use Rattle.dns_recorder.proofs.EventTimes.{timed_then}
 use Rattle.dns_stream_driver.proofs.LookNewsLaws.{noted_news}
 use Rattle.dns_stream_driver.proofs.look_news.note_news.Goals as goal
 

@@ -1,10 +1,10 @@
 use Rattle.std.proofs.Common.{refl, ◌∙◌, arith}
 use Rattle.dns_service.specs.PolledRequest.{request_answer}
 use Rattle.dns_session.specs.Serving.{serving}
-use Rattle.dns_recorder.proofs.Timings.{timed_none, timed_then}
+use Rattle.dns_recorder.proofs.EventTimes.{timed_none, timed_then}
 use Rattle.dns_stream_driver.specs.Rounds.{below_of}
 use Rattle.dns_stream_driver.proofs.Appends.{looks_none, looks_more}
-use Rattle.dns_stream_driver.proofs.Goings.{goes_begun}
+use Rattle.dns_stream_driver.proofs.ConnectionInvariant.{goes_begun}
 use Rattle.dns_stream_driver.proofs.StoryTurns.{going_begun, going_turned, closed_turned, broken_turned, goes_turned, cause_turned}
 use Rattle.dns_stream_driver.proofs.turning.serve_core.Goals as goal
 

@@ -8,7 +8,7 @@ use Rattle.dns_stream_driver.specs.Rounds.{below_of}
 use Rattle.dns_stream_driver.specs.Runs.{Going}
 use Rattle.dns_stream_driver.specs.Story.{LooksAlone}
 use Rattle.dns_stream_driver.specs.Turning.{BeginsOpen}
-use Rattle.dns_stream_driver.proofs.Goings.{Goes}
+use Rattle.dns_stream_driver.proofs.ConnectionInvariant.{Goes}
 use Rattle.dns_stream_driver.proofs.turning.serve_core.Given as goal
 
 abbrev pub invariant-loop : goal.invariant-loop

@@ -3,7 +3,7 @@ use Rattle.dns_service.specs.PolledRequest.{request_answer}
 use Rattle.dns_events.specs.declared.event.Why.{Why}
 use Rattle.dns_session.specs.Serving.{serving}
 use Rattle.dns_recorder.specs.Clocks.{Timed}
-use Rattle.dns_recorder.proofs.Timings.{timed_then, timed_shift}
+use Rattle.dns_recorder.proofs.EventTimes.{timed_then, timed_shift}
 use Rattle.dns_stream_driver.specs.Blames.{NotedWrite, ActedFor}
 use Rattle.dns_stream_driver.specs.Rounds.{below_of}
 use Rattle.dns_stream_driver.specs.Steps.{Acted, ActedPart}

@@ -1,5 +1,5 @@
 use Rattle.std.proofs.Common.{arith, ◌∙◌}
-use Rattle.dns_stream_driver.proofs.Writings.{wrote_on, wrote_end, waited_on, waited_end, blames_on, again_on}
+use Rattle.dns_stream_driver.proofs.FrameWrites.{wrote_on, wrote_end, waited_on, waited_end, blames_on, again_on}
 use Rattle.dns_stream_driver.proofs.writing.write_frame.Goals as goal
 
 pub loop-preserved : goal.loop-preserved

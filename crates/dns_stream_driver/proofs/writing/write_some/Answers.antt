@@ -1,4 +1,4 @@
-use Rattle.dns_stream_driver.proofs.Writings.{took_some}
+use Rattle.dns_stream_driver.proofs.FrameWrites.{took_some}
 use Rattle.dns_stream_driver.proofs.writing.write_some.Goals as goal
 
 pub returns-in-Took-clause-moves : goal.returns-in-Took-clause-moves

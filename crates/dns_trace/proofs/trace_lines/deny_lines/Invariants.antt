@@ -8,6 +8,6 @@ use Rattle.dns_trace.proofs.trace_lines.deny_lines.Given as goal
 -- the lines that are left make the whole, and the text begins with the text before
 abbrev pub invariant-loop-address : goal.invariant-loop-address
 invariant-loop-address l = record {
-  told : l.text ++ flat_map line_of_words (map deny_words (drop l.address-index l.denied)) ≡ l.fn.text ++ flat_map line_of_words (map deny_words l.denied);
+  so_far : l.text ++ flat_map line_of_words (map deny_words (drop l.address-index l.denied)) ≡ l.fn.text ++ flat_map line_of_words (map deny_words l.denied);
   begun : StartsWith l.text l.fn.text;
 }

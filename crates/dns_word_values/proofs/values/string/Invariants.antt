@@ -5,6 +5,6 @@ use Rattle.dns_word_values.proofs.values.string.Given as goal
 
 abbrev pub invariant-loop-octet : goal.invariant-loop-octet
 invariant-loop-octet l = record {
-  told : unescaped l.escape l.octets.items (drop l.octet-index l.word) ≡ unescaped Clear [] l.word;
+  so_far : unescaped l.escape l.octets.items (drop l.octet-index l.word) ≡ unescaped Clear [] l.word;
   escape : IsEscape l.escape;
 }

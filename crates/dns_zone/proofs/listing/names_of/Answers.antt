@@ -1,6 +1,6 @@
 use Rattle.std.proofs.Common.{take_all, subst, ◌∙◌, arith}
 use Rattle.std.specs.List.{AllByRecursion}
-use Rattle.dns_zone.specs.Kept.{KnowsPlaces}
+use Rattle.dns_zone.specs.ZoneIndex.{KnowsPlaces}
 use Rattle.dns_zone.specs.Owned.{HasNamedData}
 use Rattle.dns_zone.proofs.KeepLaws.{next_known}
 use Rattle.dns_zone.proofs.TypedLaws.{next_named}

@@ -5,7 +5,7 @@ use Rattle.dns_zone.proofs.path.marked_octets.Given as goal
 
 abbrev pub invariant-labels : goal.invariant-labels
 invariant-labels l = record {
-  told : l.octets.items ++ marked (folded l.left) ≡ marked (folded l.fn.name);
+  so_far : l.octets.items ++ marked (folded l.left) ≡ marked (folded l.fn.name);
   fits : AreLabels l.left;
 }
 

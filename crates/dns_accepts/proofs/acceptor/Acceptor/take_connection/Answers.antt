@@ -1,4 +1,4 @@
-use Rattle.dns_accepts.proofs.Askings.{asked_started}
+use Rattle.dns_accepts.proofs.AdmissionOutcomes.{asked_started}
 use Rattle.dns_accepts.proofs.acceptor.Acceptor.take_connection.Goals as goal
 
 pub returns-in-Admitted-clause-asked : goal.returns-in-Admitted-clause-asked

@@ -3,7 +3,7 @@ use Rattle.dns_service.specs.PolledRequest.{request_answer}
 use Rattle.std.proofs.Common.{rules, refl, ◌≡◌}
 use Rattle.std.specs.VecDeque.{deque_len}
 use Rattle.dns_dgram_driver.proofs.ObservedLaws.{tells_none, tells_one, tells_two, tells_d_c_dcj}
-use Rattle.dns_dgram_driver.proofs.Endings.{goes_same, goes_waited, breaks_waited, finish_more, finish_fails, finished_by}
+use Rattle.dns_dgram_driver.proofs.LoopRounds.{goes_same, goes_waited, breaks_waited, finish_more, finish_fails, finished_by}
 use Rattle.dns_dgram_driver.proofs.Went.{same_seat, polls_same, polls_then, polls_waited}
 use Rattle.dns_dgram_driver.proofs.dgram_loop.DgramLoop.finish.Goals as goal
 

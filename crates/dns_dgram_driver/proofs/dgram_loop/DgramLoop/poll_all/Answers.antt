@@ -4,7 +4,7 @@ use Rattle.std.proofs.Common.{[], ◌<◌, ◌≤◌, length, take, append-nil, 
 use Rattle.dns_dgram_driver.specs.Steps.{numbers_of}
 use Rattle.dns_dgram_driver.proofs.Places.{numbers_length, first_stands, next_is, stand_behind, none_left}
 use Rattle.dns_dgram_driver.proofs.ObservedLaws.{tells_none, tells_one, tells_two}
-use Rattle.dns_dgram_driver.proofs.Endings.{goes_same, goes_then, goes_left, goes_next, polls_fail}
+use Rattle.dns_dgram_driver.proofs.LoopRounds.{goes_same, goes_then, goes_left, goes_next, polls_fail}
 use Rattle.dns_dgram_driver.proofs.Went.{same_seat, polls_same, polls_then}
 use Rattle.dns_dgram_driver.proofs.dgram_loop.DgramLoop.poll_all.Goals as goal
 

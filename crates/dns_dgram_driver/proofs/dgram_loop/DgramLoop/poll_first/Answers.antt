@@ -1,7 +1,7 @@
 use Rattle.dns_session.specs.Serving.{serving}
 use Rattle.dns_service.specs.PolledRequest.{request_answer}
 use Rattle.dns_dgram_driver.proofs.ObservedLaws.{tells_none}
-use Rattle.dns_dgram_driver.proofs.Endings.{goes_first}
+use Rattle.dns_dgram_driver.proofs.LoopRounds.{goes_first}
 use Rattle.dns_dgram_driver.proofs.Went.{told_then}
 use Rattle.dns_dgram_driver.proofs.dgram_loop.DgramLoop.poll_first.Goals as goal
 

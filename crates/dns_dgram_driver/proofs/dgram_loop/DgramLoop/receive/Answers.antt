@@ -2,7 +2,7 @@ use Rattle.dns_session.specs.Serving.{serving}
 use Rattle.dns_service.specs.PolledRequest.{request_answer}
 use Rattle.std.proofs.Common.{◌≡◌, ◌∙◌, arith, length}
 use Rattle.dns_dgram_driver.proofs.ObservedLaws.{tells_d, tells_dd_c, tells_d_dcj}
-use Rattle.dns_dgram_driver.proofs.Endings.{received_failed, received_again, got_goes, got_fails}
+use Rattle.dns_dgram_driver.proofs.LoopRounds.{received_failed, received_again, got_goes, got_fails}
 use Rattle.dns_dgram_driver.proofs.dgram_loop.DgramLoop.receive.Goals as goal
 
 pub returns-in-Failed-clause-observed : goal.returns-in-Failed-clause-observed

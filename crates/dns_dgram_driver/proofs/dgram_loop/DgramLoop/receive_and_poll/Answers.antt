@@ -2,7 +2,7 @@ use Rattle.dns_session.specs.Serving.{serving}
 use Rattle.dns_service.specs.PolledRequest.{request_answer}
 use Rattle.std.proofs.Common.{◌∙◌, refl, arith}
 use Rattle.dns_dgram_driver.proofs.ObservedLaws.{tells_none, tells_one, tells_two}
-use Rattle.dns_dgram_driver.proofs.Endings.{goes_same, goes_then, pass_fails, pass_breaks}
+use Rattle.dns_dgram_driver.proofs.LoopRounds.{goes_same, goes_then, pass_fails, pass_breaks}
 use Rattle.dns_dgram_driver.proofs.Went.{same_seat, went_same, went_then}
 use Rattle.dns_dgram_driver.proofs.dgram_loop.DgramLoop.receive_and_poll.Goals as goal
 

@@ -2,7 +2,7 @@ use Rattle.dns_session.specs.Serving.{serving}
 use Rattle.dns_service.specs.PolledRequest.{request_answer}
 use Rattle.std.proofs.Common.{refl, arith}
 use Rattle.dns_dgram_driver.proofs.Counts.{may_come_is, taken_round}
-use Rattle.dns_dgram_driver.proofs.Endings.{goes_same, look_rounds, look_fails}
+use Rattle.dns_dgram_driver.proofs.LoopRounds.{goes_same, look_rounds, look_fails}
 use Rattle.dns_dgram_driver.proofs.ObservedLaws.{tells_none, tells_one, tells_two}
 use Rattle.dns_dgram_driver.proofs.Went.{still_ready, went_same, went_then}
 use Rattle.dns_dgram_driver.proofs.dgram_loop.DgramLoop.run_once.Goals as goal

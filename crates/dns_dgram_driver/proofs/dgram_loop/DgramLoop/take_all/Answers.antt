@@ -2,7 +2,7 @@ use Rattle.dns_session.specs.Serving.{serving}
 use Rattle.dns_service.specs.PolledRequest.{request_answer}
 use Rattle.std.proofs.Common.{refl, ◌∙◌}
 use Rattle.dns_dgram_driver.proofs.ObservedLaws.{tells_none, tells_two}
-use Rattle.dns_dgram_driver.proofs.Endings.{goes_same, goes_then, stopped_at}
+use Rattle.dns_dgram_driver.proofs.LoopRounds.{goes_same, goes_then, stopped_at}
 use Rattle.dns_dgram_driver.proofs.Went.{same_seat, went_same, went_then, rounds_to}
 use Rattle.dns_dgram_driver.proofs.dgram_loop.DgramLoop.take_all.Goals as goal
 

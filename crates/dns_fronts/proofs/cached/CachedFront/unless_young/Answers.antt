@@ -2,7 +2,7 @@
 use Rattle.std.proofs.Common.{◌∙◌}
 use Rattle.std.proofs.lemmas.Result.{IfOk-weaker}
 use Rattle.dns_fronts.specs.Caching.{looked_up}
-use Rattle.dns_fronts.proofs.Cachings.{young-taken}
+use Rattle.dns_fronts.proofs.LayersOverCache.{young-taken}
 use Rattle.dns_fronts.proofs.cached.CachedFront.unless_young.Goals as goal
 
 pub returns-in-Some-clause-taken : goal.returns-in-Some-clause-taken

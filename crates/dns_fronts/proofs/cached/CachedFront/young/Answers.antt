@@ -1,7 +1,7 @@
 -- The item out of the cache is what the cache has.
 use Rattle.std.proofs.Common.{◌∙◌, ap, Some}
 use Rattle.dns_service.specs.Answer.{Item}
-use Rattle.dns_fronts.proofs.Cachings.{young-none, young-some}
+use Rattle.dns_fronts.proofs.LayersOverCache.{young-none, young-some}
 use Rattle.dns_fronts.specs.Caching.{looked_up}
 use Rattle.dns_fronts.proofs.cached.CachedFront.young.Goals as goal
 

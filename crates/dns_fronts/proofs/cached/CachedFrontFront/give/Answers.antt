@@ -4,7 +4,7 @@ use Rattle.std.proofs.lemmas.Result.{IfOk-weaker}
 use Rattle.dns_cache.specs.AskedCache.{Cached}
 use Rattle.dns_fronts.specs.Layered.{given_turn}
 use Rattle.dns_fronts.specs.declared.cached.CachedFront.{CachedFront}
-use Rattle.dns_fronts.proofs.Cachings.{answered-so, on-ok}
+use Rattle.dns_fronts.proofs.LayersOverCache.{answered-so, on-ok}
 use Rattle.dns_fronts.proofs.cached.CachedFrontFront.give.Goals as goal
 
 pub returns-clause-item : goal.returns-clause-item

@@ -10,7 +10,7 @@ use Rattle.dns_fronts.specs.Caching.{cached_asks, cached_over, looked_up}
 use Rattle.dns_fronts.specs.Layered.{asked_message, layered}
 use Rattle.dns_fronts.specs.Passed.{taken_unless}
 use Rattle.dns_fronts.specs.Required.{settings_for}
-use Rattle.dns_fronts.proofs.Cachings.{on-ok, own-behind, own-cached, passed-behind, passed-cached}
+use Rattle.dns_fronts.proofs.LayersOverCache.{on-ok, own-behind, own-cached, passed-behind, passed-cached}
 use Rattle.dns_fronts.proofs.cached.CachedFrontFront.take.Goals as goal
 
 pub returns-in-Own-clause-taken : goal.returns-in-Own-clause-taken

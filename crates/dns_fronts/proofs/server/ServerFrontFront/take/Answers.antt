@@ -2,7 +2,7 @@
 use Rattle.std.proofs.Common.{◌≡◌, ◌∙◌, Option, ap, ℕ}
 use Rattle.dns_layers.specs.Edns.{passed_by}
 use Rattle.dns_fronts.specs.ServerReplies.{sized_request}
-use Rattle.dns_fronts.proofs.Servings.{taken-so}
+use Rattle.dns_fronts.proofs.ServerReplyLaws.{taken-so}
 use Rattle.dns_fronts.proofs.server.ServerFrontFront.take.Goals as goal
 
 pub returns-clause-taken : goal.returns-clause-taken

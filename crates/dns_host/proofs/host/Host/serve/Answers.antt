@@ -1,4 +1,4 @@
-use Rattle.dns_host.proofs.Hostings.{host_served}
+use Rattle.dns_host.proofs.ServedHost.{host_served}
 use Rattle.dns_host.proofs.host.Host.serve.Goals as goal
 
 pub returns-clause-served : goal.returns-clause-served

@@ -1,6 +1,6 @@
 use Rattle.std.proofs.Common.{rules}
-use Rattle.dns_name.proofs.Sames.{told_by}
+use Rattle.dns_name.proofs.Sames.{is_same_name_by}
 use Rattle.dns_name.proofs.parsed.ParsedNamePartialEq.eq.Goals as goal
 
 pub returns : goal.returns
-returns c = search (rules, told_by)
+returns c = search (rules, is_same_name_by)

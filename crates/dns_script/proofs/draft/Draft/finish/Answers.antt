@@ -1,4 +1,4 @@
-use Rattle.dns_script.proofs.Kept.{kept_line}
+use Rattle.dns_script.proofs.TakenLine.{kept_line}
 use Rattle.dns_script.proofs.draft.Draft.finish.Goals as goal
 
 pub returns : goal.returns

@@ -1,7 +1,7 @@
 use Rattle.std.proofs.Common.{◌≡◌, ap, length, arith}
 use Rattle.std.proofs.lemmas.List.{with_items_is}
-use Rattle.dns_workers.proofs.Causings.{rose_by}
-use Rattle.dns_workers.proofs.Workings.{workers_served}
+use Rattle.dns_workers.proofs.HostEndCauses.{rose_by}
+use Rattle.dns_workers.proofs.ServedWorkers.{workers_served}
 use Rattle.dns_workers.proofs.workers_host.WorkersHost.serve.Goals as goal
 
 pub returns-clause-served : goal.returns-clause-served

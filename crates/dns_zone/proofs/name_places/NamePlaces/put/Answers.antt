@@ -1,5 +1,5 @@
 use Rattle.std.proofs.Common.{◌≡◌, false, [], Some, is_some, ap, sym, ◌∙◌}
-use Rattle.dns_zone.specs.Kept.{kinds_under, places_in}
+use Rattle.dns_zone.specs.ZoneIndex.{kinds_under, places_in}
 use Rattle.dns_zone.proofs.KeepLaws.{none_there, put_under, puts_of}
 use Rattle.dns_zone.proofs.name_places.NamePlaces.put.Goals as goal
 

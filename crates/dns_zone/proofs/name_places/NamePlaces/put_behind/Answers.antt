@@ -1,5 +1,5 @@
 use Rattle.std.proofs.Common.{rules, Some, ap, sym}
-use Rattle.dns_zone.specs.Kept.{places_in}
+use Rattle.dns_zone.specs.ZoneIndex.{places_in}
 use Rattle.dns_zone.specs.Places.{kind_places}
 use Rattle.dns_zone.proofs.KeepLaws.{on_ok, put_under, puts_of}
 use Rattle.dns_zone.proofs.name_places.NamePlaces.put_behind.Goals as goal

@@ -1,5 +1,5 @@
 use Rattle.std.proofs.Common.{subst, ◌∙◌}
-use Rattle.dns_zone.specs.Kept.{KnowsPlaces}
+use Rattle.dns_zone.specs.ZoneIndex.{KnowsPlaces}
 use Rattle.dns_zone.specs.Owned.{ZoneState}
 use Rattle.dns_zone.proofs.KeepLaws.{behind_name}
 use Rattle.dns_zone.proofs.zone.Zone.has.Goals as goal

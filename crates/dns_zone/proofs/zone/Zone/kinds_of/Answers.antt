@@ -1,5 +1,5 @@
 use Rattle.std.proofs.Common.{ap, subst, ◌∙◌}
-use Rattle.dns_zone.specs.Kept.{KnowsPlaces, places_in}
+use Rattle.dns_zone.specs.ZoneIndex.{KnowsPlaces, places_in}
 use Rattle.dns_zone.specs.Owned.{ZoneState}
 use Rattle.dns_zone.proofs.KeepLaws.{places_asked}
 use Rattle.dns_zone.proofs.zone.Zone.kinds_of.Goals as goal

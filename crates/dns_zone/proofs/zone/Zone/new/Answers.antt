@@ -1,6 +1,6 @@
 use Rattle.std.proofs.Common.{Err, ap, map, sym, subst, ◌∙◌}
 use Rattle.std.specs.List.{AllByRecursion, filter}
-use Rattle.dns_zone.specs.Kept.{KnowsPlaces}
+use Rattle.dns_zone.specs.ZoneIndex.{KnowsPlaces}
 use Rattle.dns_zone.specs.Owned.{HasNamedData, ZoneState, is_of}
 use Rattle.dns_zone.specs.ZoneErrors.{Makes, zone_error}
 use Rattle.dns_zone.specs.ZoneReply.{negative_soa}

@@ -3,7 +3,7 @@ use Rattle.std.specs.List.{AllByRecursion}
 use Rattle.std.specs.Option.{option_copied}
 use Rattle.std.proofs.lemmas.List.{length-take, take_all}
 use Rattle.dns_name.specs.Labels.{spell}
-use Rattle.dns_zone.specs.Kept.{IsInZone, KnowsPlaces, places_in, places_under}
+use Rattle.dns_zone.specs.ZoneIndex.{IsInZone, KnowsPlaces, places_in, places_under}
 use Rattle.dns_zone.specs.Owned.{ZoneState}
 use Rattle.dns_zone.proofs.CutLaws.{along_first, cut_found, cut_none, cut_passed, ends_like, part_within, path_length}
 use Rattle.dns_zone.proofs.KeepLaws.{places_asked}

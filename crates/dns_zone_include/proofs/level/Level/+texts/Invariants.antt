@@ -28,6 +28,6 @@ abbrev pub invariant-octets_of-loop-octet : goal.invariant-octets_of-loop-octet
 invariant-octets_of-loop-octet g l =
     let include = included (g.T.ZoneTexts.texts l.self.texts.now) l.self.levels l.self.names.now l.self.name.now in
     record {
-      told : octets_of l.self.name.now include l.scan l.draft (drop l.octet-index l.text) ≡ octets_of l.self.name.now include l.fn.scan l.fn.draft l.fn.text;
+      so_far : octets_of l.self.name.now include l.scan l.draft (drop l.octet-index l.text) ≡ octets_of l.self.name.now include l.fn.scan l.fn.draft l.fn.text;
       line : l.scan.line ≤ l.fn.scan.line + l.octet-index;
     }

@@ -2,7 +2,7 @@ use Rattle.std.proofs.Common.{◌≡◌, ◌<◌, ◌-◌, false, nat_eq, ℕ, L
 use Rattle.std.specs.List.{AllByRecursion, filter}
 use Rattle.std.specs.Option.{option_copied}
 use Rattle.std.proofs.lemmas.Bool.Decides.{nat_tests}
-use Rattle.dns_zone.specs.Kept.{IsInZone}
+use Rattle.dns_zone.specs.ZoneIndex.{IsInZone}
 use Rattle.dns_zone.specs.Owned.{ZoneState, is_asked, is_of}
 use Rattle.dns_zone.specs.Places.{places}
 use Rattle.dns_zone.specs.ZoneReply.{negative_soa}

@@ -8,7 +8,7 @@ use Rattle.dns_service.specs.LastOpt.{and_opt}
 use Rattle.dns_cache.specs.Aged.{aged}
 use Rattle.dns_cache.specs.AskedCache.{KeptReply}
 use Rattle.dns_cache.proofs.ReplyLaws.{readable_kept, size_kept}
-use Rattle.dns_cache.proofs.kept.CachedReply.size_with.Goals as goal
+use Rattle.dns_cache.proofs.cached_reply.CachedReply.size_with.Goals as goal
 
 pub returns-clause-size : goal.returns-clause-size
 returns-clause-size c = λ request age e.

@@ -8,7 +8,7 @@ use Rattle.dns_stream_driver.specs.Blames.{EndBlames, EndAgain}
 use Rattle.dns_stream_driver.specs.Links.{WroteFront, WaitedTo}
 use Rattle.dns_stream_driver.specs.declared.writing.WriteEnd.{WriteEnd}
 use Rattle.dns_stream_driver.specs.declared.writing.WriteEnd.TheVariants.{Whole, Failed, Late}
-use Rattle.dns_stream_driver.proofs.Movings.{wrote_none, wrote_again}
+use Rattle.dns_stream_driver.proofs.LinkTraffic.{wrote_none, wrote_again}
 use Rattle.dns_stream_driver.proofs.Waits.{waited_none, waited_again, late_again}
 
 -- one write

@@ -21,7 +21,7 @@ use Rattle.dns_dgram_driver.specs.declared.serving.DgramEnd.{DgramEnd}
 use Rattle.dns_dgram_driver.specs.declared.serving.DgramEnd.TheVariants.{Shutdown, Counted, Fault, OutOfMemory}
 use Rattle.dns_dgram_driver.specs.declared.running.Running.{Running}
 use Rattle.dns_dgram_driver.proofs.Counts.{may_come_any, may_come_less}
-use Rattle.dns_dgram_driver.proofs.Orderings.{ordered_rest}
+use Rattle.dns_dgram_driver.proofs.EventOrder.{ordered_rest}
 use Rattle.dns_dgram_driver.proofs.Parts.{input_same, delivered_same}
 
 take_least : (d : List ℕ) (n : ℕ) → n ≡ min (length d) 1024 → take n d ≡ take 1024 d

@@ -26,7 +26,7 @@ use Rattle.dns_stream_driver.specs.Shown.{Shows, Shown}
 use Rattle.dns_stream_driver.specs.Story.{Story, LastCloses}
 use Rattle.dns_stream_driver.proofs.Appends.{pieces_append, ends_append, sent_append}
 use Rattle.dns_stream_driver.proofs.Reasons.{IsServedBy, IsServedIn, Reason, reason}
-use Rattle.dns_stream_driver.proofs.Servings.{Serves, serves}
+use Rattle.dns_stream_driver.proofs.ServedConnection.{Serves, serves}
 use Rattle.dns_stream_driver.proofs.Wide.{frames_append}
 
 pub by_may : (below : ℕ) (k : EventKind) (s : Slate) → May below k s → IsServedBy k

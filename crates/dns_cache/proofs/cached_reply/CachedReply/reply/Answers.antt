@@ -8,7 +8,7 @@ use Rattle.dns_route.specs.ReplyMessage.{ReplyState, reply_message}
 use Rattle.dns_cache.specs.Aged.{aged}
 use Rattle.dns_cache.specs.AskedCache.{KeptReply, bare_octets}
 use Rattle.dns_cache.proofs.ReplyLaws.{bare_aged, reply_aged}
-use Rattle.dns_cache.proofs.kept.CachedReply.reply.Goals as goal
+use Rattle.dns_cache.proofs.cached_reply.CachedReply.reply.Goals as goal
 
 pub returns-clause-message : goal.returns-clause-message
 returns-clause-message c =

@@ -21,7 +21,7 @@ pub enum ZoneTextError {
 }
 
 impl From<OutOfMemory> for ZoneTextError {
-    ghost use Rattle.dns_generation.specs.declared.fault.ZoneTextError.TheVariants.{OutOfMemory as NoMemory};
+    ghost use Rattle.dns_generation.specs.declared.zone_text_error.ZoneTextError.TheVariants.{OutOfMemory as NoMemory};
 
     ghost from_gives = { λ _ e. e ≡ NoMemory };
 
@@ -31,7 +31,7 @@ impl From<OutOfMemory> for ZoneTextError {
 }
 
 impl From<AllocError> for ZoneTextError {
-    ghost use Rattle.dns_generation.specs.declared.fault.ZoneTextError.TheVariants.{OutOfMemory as NoMemory};
+    ghost use Rattle.dns_generation.specs.declared.zone_text_error.ZoneTextError.TheVariants.{OutOfMemory as NoMemory};
 
     ghost from_gives = { λ _ e. e ≡ NoMemory };
 

@@ -1,4 +1,4 @@
--- What a message begins.
+-- What a client's message begins: a query, or a reply that is sent at once.
 use Rattle.std.proofs.Common.{◌≡◌, ◌≤◌, ◌<◌, ℕ, Bool, true, false, List, [], ◌∷◌, ◌++◌, ◌+◌, cond, refl, ap, sym, subst, ◌∙◌, Some, None, Option, length, lt-ltb}
 use Rattle.std.specs.Prelude.{◌||◌, nat_lt, option_map}
 use Rattle.std.proofs.lemmas.List.{append-nil}

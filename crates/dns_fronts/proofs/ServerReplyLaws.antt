@@ -46,7 +46,7 @@ use Rattle.dns_proxy.specs.Proxied.{sent_by, sent_over}
 use Rattle.dns_fronts.specs.declared.server_post.ServerPost.{ServerPost}
 use Rattle.dns_fronts.specs.declared.server_post.ServerRule.{ServerRule}
 use Rattle.dns_fronts.specs.ServerReplies.{AreWithin, behind, post_of, served, server_by, server_rule, sized_request, taken_behind}
-use Rattle.dns_fronts.proofs.Takings.{mapped-once}
+use Rattle.dns_fronts.proofs.LayerDecisions.{mapped-once}
 
 -- ---- how a request is taken
 

@@ -38,8 +38,8 @@ use Rattle.dns_stream_driver.specs.Shown.{SawShutdown, Causes}
 use Rattle.dns_stream_driver.proofs.Appends.{gained_more, gained_none}
 use Rattle.dns_stream_driver.proofs.ByKind.{event_does}
 use Rattle.dns_stream_driver.proofs.Reasons.{IsServedBy, IsServedIn, never_commanded, reason}
-use Rattle.dns_stream_driver.proofs.Servings.{Serves, serves}
-use Rattle.dns_stream_driver.proofs.Showings.{by_may}
+use Rattle.dns_stream_driver.proofs.ServedConnection.{Serves, serves}
+use Rattle.dns_stream_driver.proofs.NotedReasons.{by_may}
 use Rattle.dns_stream_driver.proofs.Wide.{news_do}
 
 saw_more : (old : Known) (k : Known) (c : Call) (r : Reply) (new : Known) → SawShutdown old k → k.name ≡ old.name → Called k c r new → SawShutdown old new

@@ -14,13 +14,13 @@ use Rattle.dns_session.specs.Rule.{rule}
 use Rattle.dns_session.specs.Stands.{Stands, GoesAs, waiting}
 use Rattle.dns_session.specs.declared.client.ClientCore.{ClientCore}
 use Rattle.dns_recorder.specs.Clocks.{ClockReading, Timed, TimedOne}
-use Rattle.dns_recorder.proofs.Timings.{timed_noted}
+use Rattle.dns_recorder.proofs.EventTimes.{timed_noted}
 use Rattle.dns_stream_driver.specs.Blames.{Blames, WroteWhole, WroteFirst, ChosenFor, NotedWrite, ActedFor}
 use Rattle.dns_stream_driver.specs.Closing.{closed_by}
 use Rattle.dns_stream_driver.specs.Links.{MovedBy, IsReadEvent}
 use Rattle.dns_stream_driver.specs.Rounds.{turned, next_turn}
 use Rattle.dns_stream_driver.specs.Steps.{Chosen, TakesEvent, NotedOrNot, Acted, ActedPart}
-use Rattle.dns_stream_driver.proofs.Blamings.{for_read, first_read}
+use Rattle.dns_stream_driver.proofs.CloseCauses.{for_read, first_read}
 use Rattle.dns_stream_driver.proofs.Choices.{chosen_read}
 
 pub acted_clock : (r : Result (Option Why) OutOfMemory) (event : Event) (l l' q q' j j' : Type 0) (n n' : List Event) (f f' : ℕ) (c c' : List ClockReading) →

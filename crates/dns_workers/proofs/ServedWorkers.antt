@@ -18,7 +18,7 @@ use Rattle.dns_accepts.specs.Clocks.{ClockReading}
 use Rattle.dns_accepts.specs.declared.accepts.AcceptEnd.{AcceptEnd}
 use Rattle.dns_host.specs.Hosting.{AcceptsWent, DgramsWent}
 use Rattle.dns_host.specs.declared.host.HostEnd.{HostEnd}
-use Rattle.dns_host.proofs.Hostings.{accepts_joined}
+use Rattle.dns_host.proofs.ServedHost.{accepts_joined}
 use Rattle.dns_workers.specs.declared.worker.Worker.{Worker}
 use Rattle.dns_workers.specs.declared.workers_host.WorkersHost.{WorkersHost}
 use Rattle.dns_workers.specs.Workers.{Outcome, HasSeat, IsWith, AreSeated, AreWith, JoinedAll, left_after, worker_seat, known_in, outcome_of, end_of_accepts, end_of_all, WorkerWent, WorkerServed, AllServed, AllWent, WorkersServed}

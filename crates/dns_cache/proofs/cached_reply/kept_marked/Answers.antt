@@ -7,7 +7,7 @@ use Rattle.dns_cache.specs.Marks.{marked_ttls}
 use Rattle.dns_cache.specs.Ttls.{least_ttl, smallest}
 use Rattle.dns_cache.proofs.KeptLaws.{least_built, message_built, octets_kept}
 use Rattle.dns_cache.proofs.ReplyLaws.{may_keep_by, never_keep, not_kept}
-use Rattle.dns_cache.proofs.kept.kept_marked.Goals as goal
+use Rattle.dns_cache.proofs.cached_reply.kept_marked.Goals as goal
 
 pub returns-then-least-eq0 : goal.returns-then-least-eq0
 returns-then-least-eq0 c =

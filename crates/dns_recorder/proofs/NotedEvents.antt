@@ -5,7 +5,7 @@ use Rattle.dns_events.specs.declared.event.EventKind.{EventKind}
 use Rattle.dns_recorder.specs.Clocks.{ClockReading, Timed, write_count}
 use Rattle.dns_recorder.specs.Notes.{NotedMoment, NotedKinds}
 use Rattle.dns_recorder.specs.Woven.{kinds}
-use Rattle.dns_recorder.proofs.Timings.{timed_one, timed_noted}
+use Rattle.dns_recorder.proofs.EventTimes.{timed_one, timed_noted}
 
 pub kinds_append : (es fs : List Event) → kinds (es ++ fs) ≡ kinds es ++ kinds fs
 kinds_append [] fs = refl

@@ -1,4 +1,4 @@
--- A connection is asked for, and what came of it.
+-- A slot is asked for a connection: what each answer of the admission leads to.
 use Rattle.std.proofs.Common.{◌≡◌, ℕ, List, [], ◌∷◌, ◌++◌, refl, sym, ◌∙◌, subst, append-nil, Result, Ok, Err, ◌⊎◌, inl, inr}
 use Rattle.dns_name.specs.declared.address.SocketAddr.{SocketAddr}
 use Rattle.dns_name.specs.declared.error.OutOfMemory.{OutOfMemory}
