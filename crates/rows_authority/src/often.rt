@@ -4,32 +4,30 @@
 ghost use Rattle.std.specs.Prelude.{◌≤◌, ◌+◌, length};
 ghost use Rattle.dns_zone.specs.Owned.{AreLawful};
 
+use crate::asking::size;
 use crate::zones::push_octets;
-use dns_authority::{Authority, AuthorityStream, Network};
-use dns_base::{Message, Record};
-use dns_name::{IpAddr, Name, SocketAddr};
-use dns_service::{
-    NonUdpTransportContext, Polled, ReplyFuture, ReplyStream, Request, Service, ServiceResult,
-    TransportSpecificContext,
-};
+use dns_authority::{Authority, Network};
+use dns_base::Record;
+use dns_middleware::{NoSecondaries, Wrapped};
+use dns_name::{IpAddr, Name};
+use dns_service::{Service, Settings};
 use dns_zone_tree::ZoneTree;
 use rows_table::{Calls, Row, RowError};
-use std::alloc::Global;
 
 /// The most names that there are.
 const MOST: u64 = 1_000_000;
 
 /// How many names begin with one letter.
-const OF_A_LETTER: u64 = 100_000;
+pub(crate) const OF_A_LETTER: u64 = 100_000;
 
 /// How far the name that is asked for is from the one that was asked for before: names far apart in turn.
-const STRIDE: u64 = 61_803;
+pub(crate) const STRIDE: u64 = 61_803;
 
 /// The apex.
-const APEX: [u8; 9] = *b"\x07example\x00";
+pub(crate) const APEX: [u8; 9] = *b"\x07example\x00";
 
 /// The SOA record.
-const SOA: [u8; 41] =
+pub(crate) const SOA: [u8; 41] =
     *b"\x07example\x00\x00\x06\x00\x01\x00\x00\x0e\x10\x00\x16\x00\x00\x00\x00\x00\x01\x00\x00\x00\x02\x00\x00\x00\x03\x00\x00\x00\x04\x00\x00\x00\x05";
 
 /// The address of the first name.
@@ -44,39 +42,95 @@ const QUERY: [u8; 32] =
 const TRANSFER: [u8; 25] =
     *b"\x12\x34\x00\x00\x00\x01\x00\x00\x00\x00\x00\x00\x07example\x00\x00\xfc\x00\x01";
 
-/// The sum of the octets of all replies of an authority that is asked often.
+/// The query for a name below a delegation.
+const BELOW: [u8; 31] =
+    *b"\x12\x34\x01\x00\x00\x01\x00\x00\x00\x00\x00\x00\x01x\x03sub\x07example\x00\x00\x01\x00\x01";
+
+/// The NS record of the delegation's first server.
+const SERVER: [u8; 40] =
+    *b"\x03sub\x07example\x00\x00\x02\x00\x01\x00\x00\x0e\x10\x00\x11\x03ns0\x03sub\x07example\x00";
+
+/// The address of that server.
+const GLUE: [u8; 31] =
+    *b"\x03ns0\x03sub\x07example\x00\x00\x01\x00\x01\x00\x00\x0e\x10\x00\x04\xc0\x00\x02\x01";
+
+/// The secret of the server cookies of the layers.
+const SECRET: [u8; 16] = [7; 16];
+
+/// What is asked for many times over.
+enum Asked {
+    /// The addresses of names.
+    Addresses,
+    /// A name below a delegation with four servers, whose addresses the zone has.
+    Delegation,
+    /// The whole zone.
+    Transfer,
+}
+
+/// The sum of the octets of all replies of an authority that is asked often: alone, or in all four layers.
 pub(crate) struct Often;
 
 impl Calls for Often {
     fn answer(&self, call: &str, row: &mut Row<'_>) -> Result<(), RowError> {
-        let is_transfer = match call {
-            "often_asked" => false,
-            "often_transferred" => true,
+        let (asked, is_layered) = match call {
+            "often_asked" => (Asked::Addresses, false),
+            "often_layered" => (Asked::Addresses, true),
+            "often_referred" => (Asked::Delegation, true),
+            "often_transferred" => (Asked::Transfer, false),
             _ => return Err(RowError::NoSuchCall),
         };
-        summed(row, is_transfer);
+        summed(row, &asked, is_layered);
         Ok(())
     }
 }
 
-/// How many names the zone has and how often it is asked, for addresses or for a transfer, are the next words.
-fn summed(row: &mut Row<'_>, is_transfer: bool) {
+/// How many names the zone has and how often it is asked are the next words.
+fn summed(row: &mut Row<'_>, asked: &Asked, is_layered: bool) {
     let names = row.number::<u64>();
     let times = row.number::<u64>();
     if names == 0 || names > MOST {
         return row.fail(RowError::OutOfForm);
     }
     let mut authority = Authority::new(row.alloc(), everywhere(row));
-    add_zone(row, &mut authority, names);
-    if is_transfer {
-        transferred(row, &authority, times);
+    add_zone(
+        row,
+        &mut authority,
+        names,
+        matches!(asked, Asked::Delegation),
+    );
+    if is_layered {
+        match in_layers(row, authority) {
+            Some(service) => answered(row, &service, asked, names, times),
+            None => row.fail(RowError::OutOfMemory),
+        }
     } else {
-        asked(row, &authority, names, times);
+        answered(row, &authority, asked, names, times);
+    }
+}
+
+/// An authority in all four layers.
+pub(crate) fn in_layers(
+    row: &mut Row<'_>,
+    authority: Authority,
+) -> Option<Wrapped<Authority, NoSecondaries>> {
+    let mut settings = Settings::new(row.alloc());
+    settings.cookies = Some(SECRET);
+    Wrapped::new(row.alloc(), &settings, authority, NoSecondaries {}).ok()
+}
+
+/// Says the sum over that many questions.
+fn answered<S: Service<()>>(row: &mut Row<'_>, service: &S, asked: &Asked, names: u64, times: u64)
+    requires { S.can_call service.now }
+{
+    match asked {
+        Asked::Addresses => asked_each(row, service, QUERY, names, times),
+        Asked::Delegation => asked_again(row, service, &BELOW, times),
+        Asked::Transfer => asked_again(row, service, &TRANSFER, times),
     }
 }
 
 /// The network of all addresses of version 4, alone.
-fn everywhere(row: &mut Row<'_>) -> Vec<Network> {
+pub(crate) fn everywhere(row: &mut Row<'_>) -> Vec<Network> {
     let mut networks = Vec::new(row.alloc());
     let network = Network {
         address: IpAddr::V4([0; 4]),
@@ -91,7 +145,7 @@ fn digit(number: u64) -> u8 {
 }
 
 /// Writes a number's name: a letter and its last five digits.
-fn write_name(octets: &mut [u8], at: usize, number: u64)
+pub(crate) fn write_name(octets: &mut [u8], at: usize, number: u64)
     requires { at + 6 ≤ length octets.old }
 {
     octets[at] = b'x' - (number / OF_A_LETTER % 10) as u8;
@@ -100,6 +154,21 @@ fn write_name(octets: &mut [u8], at: usize, number: u64)
     octets[at + 3] = digit(number / 100);
     octets[at + 4] = digit(number / 10);
     octets[at + 5] = digit(number);
+}
+
+/// Appends a delegation with four servers and their addresses.
+fn push_delegation(row: &mut Row<'_>, records: &mut Vec<Record>)
+    requires { AreLawful records.old.items }
+    ensures { AreLawful records.new.items }
+{
+    let mut server = SERVER;
+    let mut glue = GLUE;
+    'each: for number in 0u8..4 {
+        server[26] = b'0' + number;
+        glue[3] = b'0' + number;
+        push_octets(row, records, &server);
+        push_octets(row, records, &glue);
+    }
 }
 
 /// The records of that many names, after the SOA record.
@@ -116,12 +185,15 @@ fn records_of(row: &mut Row<'_>, names: u64) -> Vec<Record>
     records
 }
 
-/// Adds the zone of that many names.
-fn add_zone(row: &mut Row<'_>, authority: &mut Authority, names: u64) {
+/// Adds the zone of that many names, with a delegation or without.
+fn add_zone(row: &mut Row<'_>, authority: &mut Authority, names: u64, delegates: bool) {
     let apex = row.copied(&APEX);
     match Name::from_octets(apex) {
         Ok(apex) => {
-            let records = records_of(row, names);
+            let mut records = records_of(row, names);
+            if delegates {
+                push_delegation(row, &mut records);
+            }
             match ZoneTree::new(row.alloc(), apex, records) {
                 Ok(zone) => added(row, authority, zone),
                 Err(_) => row.fail(RowError::OutOfForm),
@@ -137,15 +209,24 @@ fn added(row: &mut Row<'_>, authority: &mut Authority, zone: ZoneTree) {
     }
 }
 
-/// Says the sum over that many questions, each for another name.
-fn asked(row: &mut Row<'_>, authority: &Authority, names: u64, times: u64) {
-    let mut octets = QUERY;
+/// Says the sum over that many questions, each for another name: at octet 13 of the query a name is written.
+pub(crate) fn asked_each<S: Service<()>, const N: usize>(
+    row: &mut Row<'_>,
+    service: &S,
+    query: [u8; N],
+    names: u64,
+    times: u64,
+)
+    requires can_call { S.can_call service.now }
+    requires long { 19 ≤ N }
+{
+    let mut octets = query;
     let mut number = 0u64;
     let mut sum = 0u64;
     for _i in 0..times {
         number = number.wrapping_add(STRIDE).checked_rem(names).unwrap_or(0);
         write_name(&mut octets, 13, number);
-        match size(row.alloc(), authority, &octets) {
+        match size(row.alloc(), service, &octets) {
             Some(size) => sum = sum.wrapping_add(size),
             None => return row.fail(RowError::OutOfMemory),
         }
@@ -153,73 +234,16 @@ fn asked(row: &mut Row<'_>, authority: &Authority, names: u64, times: u64) {
     row.show(&sum)
 }
 
-/// Says the sum over that many transfers.
-fn transferred(row: &mut Row<'_>, authority: &Authority, times: u64) {
+/// Says the sum over that many times one question.
+fn asked_again<S: Service<()>>(row: &mut Row<'_>, service: &S, query: &[u8], times: u64)
+    requires { S.can_call service.now }
+{
     let mut sum = 0u64;
     for _i in 0..times {
-        match size(row.alloc(), authority, &TRANSFER) {
+        match size(row.alloc(), service, query) {
             Some(size) => sum = sum.wrapping_add(size),
             None => return row.fail(RowError::OutOfMemory),
         }
     }
     row.show(&sum)
-}
-
-/// How many octets the replies to a query over a stream have.
-fn size(alloc: Global, authority: &Authority, octets: &[u8]) -> Option<u64> {
-    match request(alloc, octets) {
-        Some(mut request) => called(alloc, authority, &mut request),
-        None => None,
-    }
-}
-
-/// A query as a request over a stream.
-fn request(alloc: Global, octets: &[u8]) -> Option<Request<()>> {
-    let sender = SocketAddr {
-        ip: IpAddr::V4([192, 0, 2, 1]),
-        port: 5353,
-    };
-    let transport = TransportSpecificContext::NonUdp(NonUdpTransportContext::new(None));
-    match Vec::from_slice(alloc, octets) {
-        Ok(octets) => match Message::from_octets(octets) {
-            Ok(message) => Request::new(alloc, sender, 5, 100, message, transport, ()).ok(),
-            Err(_) => None,
-        },
-        Err(_) => None,
-    }
-}
-
-/// How many octets the replies to a request have.
-fn called(alloc: Global, authority: &Authority, request: &mut Request<()>) -> Option<u64> {
-    match authority.call(alloc, request) {
-        Ok(mut future) => match future.poll(alloc) {
-            Ok(Polled::Ready(mut stream)) => replies_size(alloc, &mut stream),
-            _ => None,
-        },
-        Err(_) => None,
-    }
-}
-
-/// How many octets the replies of a stream have, up to its end.
-fn replies_size(alloc: Global, stream: &mut AuthorityStream) -> Option<u64> {
-    let mut sum = 0u64;
-    for _i in 0..MOST {
-        match stream.poll_next(alloc) {
-            Ok(Polled::Ready(Some(item))) => sum = sum.wrapping_add(item_size(&item)),
-            Ok(Polled::Ready(None)) => return Some(sum),
-            _ => return None,
-        }
-    }
-    None
-}
-
-/// How many octets the reply of an item has.
-fn item_size(item: &ServiceResult) -> u64 {
-    match item {
-        Ok(given) => match given.response() {
-            Some(reply) => reply.as_slice().len() as u64,
-            None => 0,
-        },
-        Err(_) => 0,
-    }
 }

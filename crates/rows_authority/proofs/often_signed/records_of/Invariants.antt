@@ -1,0 +1,6 @@
+use Rattle.std.proofs.Common.{◌≡◌, length}
+use Rattle.dns_zone.specs.Owned.{AreLawful}
+use Rattle.rows_authority.proofs.often_signed.records_of.Given as goal
+
+abbrev pub invariant-each : goal.invariant-each
+invariant-each l = AreLawful l.records.items
