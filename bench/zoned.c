@@ -8,7 +8,8 @@
  *        zoned steady PORT NAMES RATE MILLIS OPT            that many queries a second over UDP, each asked again after a second without reply
  *
  * NAMES is how many names nK.example. there are; of four queries three are for one of these, and one is for a name that isn't there. NAMES
- * 0 is for the plain server: then no reply is looked at. With OPT 1 a query has an OPT record of 1232 octets.
+ * 0 is for the plain server: then no reply is looked at. With OPT 1 a query has an OPT record of 1232 octets. With 2 that has DO (RFC 3225),
+ * and each name is there; with 3 too, and none is.
  *
  * udp and tcp print: replies, lost queries, nanoseconds. steady prints: queries, those that were answered at once, those that were answered
  * when asked again, lost queries, and in microseconds the median, the 99th of a hundred and the greatest of the times of those answered at
@@ -80,7 +81,7 @@ static void echo(void) {
 /* ---- Queries and replies ---- */
 
 static uint32_t names;
-static bool with_opt;
+static enum { NO_OPT, OPT, DO_PRESENT, DO_MISSING } asked;
 static uint64_t dice = 88172645463325252u;
 
 static uint32_t thrown(void) {
@@ -95,25 +96,28 @@ static size_t query(uint8_t *to, uint16_t id) {
     static const uint8_t head[12] = {0, 0, 0, 0, 0, 1, 0, 0, 0, 0, 0, 0};
     static const uint8_t tail[] = {7, 'e', 'x', 'a', 'm', 'p', 'l', 'e', 0, 0, 1, 0, 1};
     static const uint8_t opt[11] = {0, 0, 41, 1232 / 256, 1232 % 256, 0, 0, 0, 0, 0, 0};
+    const char *form = id & 1 ? "n%u" : asked == DO_MISSING ? "n%ux" : "x%u";
     memcpy(to, head, sizeof head);
     to[0] = (uint8_t)(id >> 8);
     to[1] = (uint8_t)id;
-    int count = snprintf((char *)to + 13, 16, "%c%u", id & 1 ? 'n' : 'x', thrown() % (names ? names : 100000));
+    int count = snprintf((char *)to + 13, 16, form, thrown() % (names ? names : 100000));
     to[12] = (uint8_t)count;
     size_t size = 13 + (size_t)count;
     memcpy(to + size, tail, sizeof tail);
     size += sizeof tail;
-    if (with_opt) {
+    if (asked != NO_OPT) {
         to[11] = 1;
         memcpy(to + size, opt, sizeof opt);
+        if (asked != OPT) to[size + 7] = 0x80;
         size += sizeof opt;
     }
     return size;
 }
 
-/* An identifier: a number, and whether the name is there, as in three of four queries. */
+/* An identifier: a number, and whether the name is there, as in three of four queries, in all or in none. */
 static uint16_t identifier(uint32_t number) {
-    return (uint16_t)(number << 1 | (number % 4 != 3));
+    bool is_there = asked == DO_PRESENT || (asked != DO_MISSING && number % 4 != 3);
+    return (uint16_t)(number << 1 | is_there);
 }
 
 static void judge(const uint8_t *reply, size_t size) {
@@ -311,7 +315,8 @@ int main(int count, char **words) {
     }
     int port = atoi(words[2]);
     names = (uint32_t)atoi(words[3]);
-    with_opt = atoi(words[count - 1]) != 0;
+    int kind = atoi(words[count - 1]);
+    asked = kind < NO_OPT || kind > DO_MISSING ? NO_OPT : kind;
     uint64_t nanos = (uint64_t)atoi(words[count - 2]) * 1000000u;
     alarm((unsigned)(nanos / SECOND) + 30);
     if (strcmp(words[1], "steady") == 0) {
