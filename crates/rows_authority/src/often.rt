@@ -58,6 +58,7 @@ const GLUE: [u8; 31] =
 const SECRET: [u8; 16] = [7; 16];
 
 /// What is asked for many times over.
+#[derive(Drop)]
 enum Asked {
     /// The addresses of names.
     Addresses,

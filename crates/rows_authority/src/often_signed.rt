@@ -136,7 +136,7 @@ fn push_record(
     ensures { AreLawful records.new.items }
 {
     let (first, second) = parts;
-    let len = first.len().saturating_add(second.len()) as u16;
+    let len = u16::try_from(first.len().saturating_add(second.len())).unwrap_or(u16::MAX);
     let mut octets = row.copied(owner);
     row.keep(octets.extend_from_slice(&[0, rtype, 0, 1, 0, 0, 0, 60]));
     row.keep(octets.extend_from_slice(&len.to_be_bytes()));

@@ -1,6 +1,5 @@
-use Rattle.std.proofs.Common.{◌≡◌, length}
 use Rattle.dns_zone.specs.Owned.{AreLawful}
 use Rattle.rows_authority.proofs.often.push_delegation.Given as goal
 
 abbrev pub invariant-each : goal.invariant-each
-invariant-each l = AreLawful l.records.now.items
+invariant-each l = AreLawful l.records.items

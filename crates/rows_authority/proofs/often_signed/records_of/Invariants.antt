@@ -1,4 +1,3 @@
-use Rattle.std.proofs.Common.{◌≡◌, length}
 use Rattle.dns_zone.specs.Owned.{AreLawful}
 use Rattle.rows_authority.proofs.often_signed.records_of.Given as goal
 
