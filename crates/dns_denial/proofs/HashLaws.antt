@@ -15,7 +15,7 @@ use Rattle.dns_zone_tree.specs.Wildcards.{star}
 use Rattle.dns_denial.specs.Chains.{IsDeniable, has_type, is_below_cut, is_record_at, is_deniable}
 use Rattle.dns_denial.specs.Denials.{CanBeDenied, HasNone, IsAnswered, IsUnsigned, is_under_dname}
 use Rattle.dns_denial.specs.Nsec3.{AreApart, ExpansionsAreProved3, Hashing, InsecureDelegationsAreProved3, IsApart, IsNear, IsWhole3, NameErrorsAreProved3, NoDataIsProved3, Nsec3State, OptedOutDelegationsAreProved3, WildcardNoDataIsProved3, at_encloser, closer, covers3, has, hash_of, is_delegation3, is_firm, is_matched, is_unsigned, lacks3, matches3, next_closer, opts_out, provable, proves_encloser}
-use Rattle.dns_denial.proofs.NameLaws.{ends_cons, ends_itself, ends_short, ends_trans, ends_whole, same_back, same_ends, same_trans}
+use Rattle.dns_denial.proofs.NameLaws.{ends_cons, ends_itself, ends_short, ends_tail, ends_trans, ends_whole, same_back, same_ends, same_trans}
 use Rattle.dns_denial.proofs.ChainLaws.{answered_above, cut_by, cut_of, not_below}
 use Rattle.dns_denial.proofs.ListLaws.{each_of, found, present}
 use Rattle.dns_denial.proofs.StartLaws.{HasStart, starts, wild_uncut, within_all}
@@ -139,9 +139,12 @@ module _ (z : ZoneState) (h : Hashing) (ns : List Nsec3State) (w : IsWhole3 z h 
 
   found_closer : (cs : List Nsec3State) (name : List (List ℕ)) → any_matched h ns name ≡ true → is_matched h ns name ≡ false → Chosen name cs → next_closer h cs name ≡ Some (closer h ns name)
   found_closer cs [] r e k = absurd (true≢false (sym r ∙ e))
-  found_closer cs (l ∷ ls) r e k = by_test (found_closer cs ls (up_step h ns (is_matched h ns (l ∷ ls)) (any_matched h ns ls) r e)) (cases_Bool (is_matched h ns ls))
+  found_closer cs (l ∷ ls) r e k =
+      ap (λ (b : Bool). if b then None else (if list_any (matches3 h ls) cs then (if list_any (covers3 h (l ∷ ls)) cs then Some (l ∷ ls) else None) else next_closer h cs ls)) (seen cs k.of_chain (l ∷ ls) e)
+      ∙ by_test (found_closer cs ls (up_step h ns (is_matched h ns (l ∷ ls)) (any_matched h ns ls) r e)) (cases_Bool (is_matched h ns ls))
     where
-      by_test : (is_matched h ns ls ≡ false → Chosen ls cs → next_closer h cs ls ≡ Some (closer h ns ls)) → (is_matched h ns ls ≡ true) ⊎ (is_matched h ns ls ≡ false) → next_closer h cs (l ∷ ls) ≡ Some (closer h ns (l ∷ ls))
+      by_test : (is_matched h ns ls ≡ false → Chosen ls cs → next_closer h cs ls ≡ Some (closer h ns ls)) → (is_matched h ns ls ≡ true) ⊎ (is_matched h ns ls ≡ false) →
+          (if list_any (matches3 h ls) cs then (if list_any (covers3 h (l ∷ ls)) cs then Some (l ∷ ls) else None) else next_closer h cs ls) ≡ Some (closer h ns (l ∷ ls))
       by_test ih (inl x) =
           let m : list_any (matches3 h ls) cs ≡ true = ap (λ (y : List (List ℕ)). list_any (matches3 h y) cs) (sym (provable_cons h ns l ls e ∙ provable_here h ns ls x)) ∙ k.encloser in
           let c : list_any (covers3 h (l ∷ ls)) cs ≡ true = ap (λ (y : List (List ℕ)). list_any (covers3 h y) cs) (sym (closer_here h ns l ls x)) ∙ k.next in

@@ -68,12 +68,13 @@ lacks3 t n = not ((nat_eq t 255 && list_any is_deniable n.types) || (has n t || 
 
 -- ---- all NSEC3s of a reply
 
--- of a name that doesn't exist the next closer name, one label longer than the closest encloser (section 8.3): the first name up
+-- of a name that no NSEC3 matches the next closer name, one label longer than the closest encloser (section 8.3): the first name up
 -- from it whose parent an NSEC3 matches, if one covers it
 abbrev pub next_closer : Hashing → List Nsec3State → List (List ℕ) → Option (List (List ℕ))
 next_closer h ns [] = None
-next_closer h ns (l ∷ ls) = if list_any (matches3 h ls) ns then (if list_any (covers3 h (l ∷ ls)) ns then Some (l ∷ ls) else None)
-    else next_closer h ns ls
+next_closer h ns (l ∷ ls) = if list_any (matches3 h (l ∷ ls)) ns then None
+    else (if list_any (matches3 h ls) ns then (if list_any (covers3 h (l ∷ ls)) ns then Some (l ∷ ls) else None)
+    else next_closer h ns ls)
 
 -- the NSEC3 of the closest encloser is no delegation's and no DNAME's (section 8.3)
 abbrev pub proves_encloser : Hashing → List Nsec3State → List (List ℕ) → Bool
@@ -200,8 +201,7 @@ NameErrorsAreProved3 = (z : ZoneState) (h : Hashing) (ns : List Nsec3State) (nam
 abbrev pub NoDataIsProved3 : Type 0
 NoDataIsProved3 = (z : ZoneState) (h : Hashing) (ns : List Nsec3State) (name : List (List ℕ)) (t : ℕ) (a : Nsec3State) → IsWhole3 z h ns
     → ends_name name z.apex ≡ true → IsAnswered z name → exists z name ≡ true → is_matched h ns name ≡ true → HasNone z name t
-    → CanBeDenied z name t
-    → IsNear h ns name a → proves_no_data3 h (a ∷ []) name t ≡ true
+    → CanBeDenied z name t → IsNear h ns name a → proves_no_data3 h (a ∷ []) name t ≡ true
 
 -- a name that doesn't exist, for which a wildcard stands that has no records of a type
 abbrev pub WildcardNoDataIsProved3 : Type 0
