@@ -20,5 +20,6 @@ pub mod ProvableLaws
 pub mod HashLaws
 pub mod Accepted3Laws
 pub mod HashedChoice
+pub mod ExampleLaws
 pub mod SignedLaws
 pub mod StandLaws

@@ -12,4 +12,5 @@ pub mod Accepted
 pub mod Nsec3
 pub mod Hashes
 pub mod Accepted3
+pub mod ExampleChain
 pub mod Signed

@@ -4,6 +4,7 @@ ghost use Rattle.dns_denial.specs.Accepted.{EachAbsenceIsProved};
 ghost use Rattle.dns_denial.specs.Accepted3.{EachAbsenceIsProved3};
 ghost use Rattle.dns_denial.specs.Checks.{WholeChainsBreakNowhere};
 ghost use Rattle.dns_denial.specs.Denials.{DsIsProvedAbsent, ExpansionsAreProved, InsecureDelegationsAreProved, NameErrorsAreProved, NoDataIsProved, WildcardNoDataIsProved};
+ghost use Rattle.dns_denial.specs.ExampleChain.{ExampleChainIsWhole};
 ghost use Rattle.dns_denial.specs.Signed.{SigningAdds};
 ghost use Rattle.dns_denial.specs.Nsec3.{ExpansionsAreProved3, InsecureDelegationsAreProved3, NameErrorsAreProved3, NoDataIsProved3, OptedOutDelegationsAreProved3, WildcardNoDataIsProved3};
 
@@ -89,6 +90,12 @@ pub fn opted_out_delegations_are_proved3()
 /// at all.
 pub fn each_absence_is_proved3()
     ensures { EachAbsenceIsProved3 }
+{}
+
+/// The NSEC3s of two names of RFC 5155, appendix A, are a whole chain of a zone of these names. So the laws by NSEC3 say something
+/// of a zone below the root.
+pub fn example_chain_is_whole3()
+    ensures { ExampleChainIsWhole }
 {}
 
 /// Signing adds to a reply and never changes it.

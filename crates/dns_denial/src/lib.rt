@@ -27,6 +27,7 @@
 //!   of its names. The question isn't for RRSIG, NSEC or the DS of the apex.
 //! - So do three NSEC3s, with Opt-Out or without (`each_absence_is_proved3`). The hashes of the names that are looked for have to
 //!   be apart, and the chain to have a proof at all (`IsProvable`: a span with Opt-Out may leave out empty non-terminals).
+//! - There is a whole chain of a zone below the root (`example_chain_is_whole3`: two names of RFC 5155, appendix A).
 //! - `check` gives Ok exactly for a chain that is whole. Its error is the first record that no NSEC lists, else the first NSEC that
 //!   is unfounded, else the first that points elsewhere. A whole chain breaks nowhere (`whole_chains_break_nowhere`).
 //! - The NSEC3s of a `HashedDenial` are those of the names that its fields say (`each`).
@@ -61,11 +62,11 @@ pub use chain_error::ChainError;
 pub use hash::{Hashing, HashingError};
 pub use hashed_denial::HashedDenial;
 pub use laws::{
-    ds_is_proved_absent, each_absence_is_proved, each_absence_is_proved3, expansions_are_proved,
-    expansions_are_proved3, insecure_delegations_are_proved, insecure_delegations_are_proved3,
-    name_errors_are_proved, name_errors_are_proved3, no_data_is_proved, no_data_is_proved3,
-    opted_out_delegations_are_proved3, signing_adds, whole_chains_break_nowhere,
-    wildcard_no_data_is_proved, wildcard_no_data_is_proved3,
+    ds_is_proved_absent, each_absence_is_proved, each_absence_is_proved3, example_chain_is_whole3,
+    expansions_are_proved, expansions_are_proved3, insecure_delegations_are_proved,
+    insecure_delegations_are_proved3, name_errors_are_proved, name_errors_are_proved3,
+    no_data_is_proved, no_data_is_proved3, opted_out_delegations_are_proved3, signing_adds,
+    whole_chains_break_nowhere, wildcard_no_data_is_proved, wildcard_no_data_is_proved3,
 };
 pub use nsec::Nsec;
 pub use nsec3::{HashedChain, Nsec3};
