@@ -207,19 +207,26 @@ near_seen o at limit h k =
     rw (get_or-take limit o at 0 h) at (drop-cons (take limit o) at 0 b)
 
 -- the piece at such a place, by its first octet
+root_there : (b : Bool) (at : ℕ) (d more : List ℕ) → d ≡ 0 ∷ more → name_piece_of b at d ≡ Ok End
+root_there b at d more e = rw e refl
+
 pub piece_root : (o : List ℕ) (r : NameBounds) (at : ℕ) → at < r.limit → r.limit ≤ length o → get_or o at 0 ≡ 0 → name_piece r 0 o at ≡ Ok End
 unfolding name_piece
-piece_root o r at h k z = rw (near_seen o at r.limit h k, z) refl
+piece_root o r at h k z = root_there r.pointers at (drop at (near r.limit 0 o)) (drop (suc at) (take r.limit o)) (rw z at (near_seen o at r.limit h k))
 
 text_there : (b : Bool) (at n : ℕ) (more : List ℕ) → 0 < n → n < 64 → n ≤ length more → name_piece_of b at (n ∷ more) ≡ Ok (Text n)
-text_there b at n more h k l = grind (arith, nat_tests)
+text_there true at n more h k l = grind (arith, nat_tests)
+text_there false at n more h k l = grind (arith, nat_tests)
+
+text_here : (b : Bool) (at n : ℕ) (d more : List ℕ) → d ≡ n ∷ more → 0 < n → n < 64 → n ≤ length more → name_piece_of b at d ≡ Ok (Text n)
+text_here b at n d more e h k l = rw e (text_there b at n more h k l)
 
 pub piece_label : (o : List ℕ) (r : NameBounds) (at n : ℕ) → at < r.limit → r.limit ≤ length o → get_or o at 0 ≡ n → 0 < n → n < 64 → at + n + 1 ≤ r.limit → name_piece r 0 o at ≡ Ok (Text n)
 unfolding name_piece
 piece_label o r at n h k e p q s =
     let t = length-take r.limit o in
     let d = length-drop (suc at) (take r.limit o) in
-    rw (near_seen o at r.limit h k, e) (text_there r.pointers at n (drop (suc at) (take r.limit o)) p q (omega (arith, t, d)))
+    text_here r.pointers at n (drop at (near r.limit 0 o)) (drop (suc at) (take r.limit o)) (rw e at (near_seen o at r.limit h k)) p q (omega (arith, t, d))
 
 -- the walk along labels alone, where the size so far is what lies behind the start
 pub plain_root : (o : List ℕ) (r : NameBounds) (at size : ℕ) → at < r.limit → r.limit ≤ length o → get_or o at 0 ≡ 0 → end_by None (rest_of o r at size 0) ≡ Ok (at + 1)
