@@ -7,7 +7,7 @@ use Rattle.dns_message.specs.Fixed.{fixed_at}
 use Rattle.dns_message.specs.Sections.{field}
 use Rattle.dns_message.proofs.Written.{past}
 
--- numbers, and what lies behind two octets
+-- numbers, and what lies after two octets
 two_seen : (o more : List ℕ) (at a b : ℕ) → drop at o ≡ a ∷ b ∷ more → two_at o at ≡ Ok (be16 a b, at + 2)
 unfolding two_at
 two_seen o more at a b h = rw h refl
@@ -88,7 +88,7 @@ four_few o at (a ∷ b ∷ []) s k = rw (two_seen o [] at a b s, two_none o (at 
 four_few o at (a ∷ b ∷ c ∷ []) s k = rw (two_seen o (c ∷ []) at a b s, two_one o (at + 2) c (behind o (c ∷ []) at a b s)) refl
 four_few o at (a ∷ b ∷ c ∷ d ∷ more) s k = absurd (omega arith)
 
--- too few octets behind the type and the class
+-- too few octets after the type and the class
 few_behind : (o : List ℕ) (at a b c d : ℕ) (m : List ℕ) → drop at o ≡ a ∷ b ∷ c ∷ d ∷ m → length m < 4 → fixed_at o at ≡ Err ShortInput
 unfolding fixed_at
 few_behind o at a b c d m s k =
@@ -96,7 +96,7 @@ few_behind o at a b c d m s k =
     let s2 = behind o m (at + 2) c d s1 in
     rw (two_seen o (c ∷ d ∷ m) at a b s, two_seen o m (at + 2) c d s1, four_few o (at + 2 + 2) m s2 k) refl
 
--- too few octets behind the TTL
+-- too few octets after the TTL
 no_size : (o : List ℕ) (at a b c d e f g h : ℕ) (m : List ℕ) → drop at o ≡ a ∷ b ∷ c ∷ d ∷ e ∷ f ∷ g ∷ h ∷ m → length m < 2 → fixed_at o at ≡ Err ShortInput
 unfolding fixed_at
 no_size o at a b c d e f g h m s k =

@@ -60,7 +60,7 @@ fn octets_of(fields: FixedFields) -> [u8; 10]
     ]
 }
 
-/// Appends the fields; nothing where there is no memory.
+/// Appends the fields; nothing if there is no memory.
 pub(crate) fn push_fixed(target: &mut Vec<u8>, fields: FixedFields) -> Result<(), OutOfMemory>
     ensures ok { OnOk result (target.new.items ≡ target.old.items ++ fixed_octets fields) }
     ensures err { OnErr result (target.new.items ≡ target.old.items) }

@@ -228,7 +228,7 @@ piece_label o r at n h k e p q s =
     let d = length-drop (suc at) (take r.limit o) in
     text_here r.pointers at n (drop at (near r.limit 0 o)) (drop (suc at) (take r.limit o)) (rw e at (near_seen o at r.limit h k)) p q (omega (arith, t, d))
 
--- the walk along labels alone, where the size so far is what lies behind the start
+-- the walk along labels alone, where the size so far is what lies after the start
 pub plain_root : (o : List ℕ) (r : NameBounds) (at size : ℕ) → at < r.limit → r.limit ≤ length o → get_or o at 0 ≡ 0 → end_by None (rest_of o r at size 0) ≡ Ok (at + 1)
 plain_root o r at size h k z = walk_end o r at size 0 None (piece_root o r at h k z)
 

@@ -96,8 +96,8 @@ pub(crate) fn end_at(message: &[u8], reach: NameBounds, start: usize) -> Result<
     }
 }
 
-/// The place behind the name that is read so at a place, where it is labels alone up to the root's and has at most 255
-/// octets; none where a pointer comes, or the name is refused.
+/// The place after the name at a place, if it is labels alone up to the root's and has at most 255 octets.
+/// None if a pointer comes, or the name is refused.
 #[inline(always)]
 fn plain_end(message: &[u8], reach: NameBounds, start: usize) -> Option<usize>
     requires first { start ≤ reach.limit }
@@ -120,7 +120,7 @@ fn plain_end(message: &[u8], reach: NameBounds, start: usize) -> Option<usize>
     None
 }
 
-/// The place behind the name that is read so at a place, piece by piece, pointers followed where they are.
+/// The place after the name that is read so at a place, piece by piece, pointers followed where they are.
 fn walked_end(message: &[u8], reach: NameBounds, start: usize) -> Result<usize, ParseError>
     requires first { start ≤ reach.limit }
     requires limited { reach.limit ≤ length message.now }
