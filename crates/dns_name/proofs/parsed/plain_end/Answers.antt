@@ -1,4 +1,4 @@
-use Rattle.std.proofs.Common.{rules, ◌≡◌, ◌-◌, get_or, refl, sym, ◌∙◌, arith}
+use Rattle.std.proofs.Common.{◌≡◌, ◌-◌, get_or, refl, sym, ◌∙◌, arith}
 use Rattle.dns_name.specs.Names.{name_by}
 use Rattle.dns_name.proofs.Walks.{plain_root, plain_label}
 use Rattle.dns_name.proofs.parsed.plain_end.Goals as goal
@@ -11,7 +11,7 @@ labels-init c =
 
 pub returns-then-head-eq0-clause-value : goal.returns-then-head-eq0-clause-value
 returns-then-head-eq0-clause-value c =
-    let w = plain_root c.args.message.now c.args.reach c.labels.at (c.labels.at - c.args.start) (omega arith) c.requires.limited (search rules) in
+    let w = plain_root c.args.message.now c.args.reach c.labels.at (c.labels.at - c.args.start) (omega arith) c.requires.limited (omega arith) in
     sym (c.labels.invariant.walk c.labels-test.true) ∙ w
 
 pub labels-preserved : goal.labels-preserved

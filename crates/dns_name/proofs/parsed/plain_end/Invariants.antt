@@ -5,7 +5,7 @@ use Rattle.dns_name.proofs.parsed.plain_end.Given as goal
 abbrev pub invariant-labels : goal.invariant-labels
 invariant-labels l = record {
   after : l.start ≤ l.at;
-  walk : l.at < l.bound → end_by None (rest_of l.message l.fn.reach l.at (l.at - l.start) 0) ≡ end_of (name_by l.message l.reach l.start);
+  walk : l.at < l.bound → end_by None (rest_of l.message l.fn.reach l.at (l.at - l.start) 0) ≡ end_of (name_by l.message l.fn.reach l.start);
 }
 
 abbrev pub decreases-labels : goal.decreases-labels
