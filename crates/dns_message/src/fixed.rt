@@ -19,7 +19,6 @@ pub(crate) struct FixedFields {
 
 /// The fields at a place, and the place after them.
 #[inline(always)]
-#[tactic(auto, using(crate::proofs::FixedAt::fixed_long, crate::proofs::FixedAt::fixed_short))]
 pub(crate) fn fixed_in(message: &[u8], at: usize) -> Result<(FixedFields, usize), ParseError>
     requires { at ≤ length message.now }
     ensures value { result ≡ fixed_at message.now at }
