@@ -2,3 +2,4 @@ mod Puts
 mod RawPushes
 pub mod Sizes
 pub mod Opts
+mod Zeros

@@ -31,6 +31,9 @@ fn numbers(alloc: Global, algorithms: &[SecurityAlgorithm]) -> Result<Vec<u8>, O
     Ok(octets)
 }
 
+/// How many octets of padding take no memory of their own.
+const SHORT: u16 = 128;
+
 /// A vector of `len` zeros.
 fn zeros(alloc: Global, len: u16) -> Result<Vec<u8>, OutOfMemory>
     ensures { IfOk result (λ v. v.items ≡ replicate len 0) }
@@ -188,22 +191,27 @@ impl OptBuilder {
     }
 
     /// Appends padding of that many zeros (RFC 7830).
+    #[tactic(auto, using(crate::proofs::Zeros::zeros_within))]
     pub fn padding(&mut self, alloc: Global, len: u16) -> Result<(), BuildDataError>
         ensures { PushedIn 12 (replicate len 0) self.old self.new result }
     {
         if self.options.len() + 4 + len as usize > 65535 {
             return Err(BuildDataError::LongOptData);
         }
+        if len <= SHORT {
+            let zeros = [0u8; SHORT as usize];
+            return self.padding_of(alloc, &zeros[..len as usize]);
+        }
         match zeros(alloc, len) {
-            Ok(octets) => self.padding_of(alloc, octets),
+            Ok(octets) => self.padding_of(alloc, octets.as_slice()),
             Err(_) => Err(BuildDataError::OutOfMemory),
         }
     }
 
-    fn padding_of(&mut self, alloc: Global, octets: Vec<u8>) -> Result<(), BuildDataError>
-        ensures { PushedIn 12 octets.items self.old self.new result }
+    fn padding_of(&mut self, alloc: Global, octets: &[u8]) -> Result<(), BuildDataError>
+        ensures { PushedIn 12 octets.now self.old self.new result }
     {
-        match PaddingRef::from_slice(octets.as_slice()) {
+        match PaddingRef::from_slice(octets) {
             Ok(padding) => self.push(alloc, &padding),
             Err(_) => Err(BuildDataError::LongOptData),
         }
