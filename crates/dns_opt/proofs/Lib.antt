@@ -2,4 +2,3 @@ mod Puts
 mod RawPushes
 pub mod Sizes
 pub mod Opts
-mod Zeros
