@@ -1,8 +1,9 @@
 -- The fields between the owner and the data of a record, by the octets that stand there.
-use Rattle.std.proofs.Common.{◌≡◌, ℕ, ◌+◌, ◌*◌, ◌<◌, ◌≤◌, List, [], ◌∷◌, length, drop, Ok, Err, refl, arith}
+use Rattle.std.proofs.Common.{◌≡◌, ℕ, ◌+◌, ◌-◌, ◌*◌, ◌<◌, ◌≤◌, List, [], ◌∷◌, length, take, drop, Ok, Err, refl, sym, arith, length-drop}
+use Rattle.std.proofs.lemmas.List.{take_all}
 use Rattle.dns_name.specs.declared.error.ParseError.TheVariants.{ShortInput}
 use Rattle.dns_name.specs.Place.{be16}
-use Rattle.dns_message.specs.Read.{two_at, four_at, ◌>>=◌}
+use Rattle.dns_message.specs.Read.{two_at, four_at}
 use Rattle.dns_message.specs.Fixed.{fixed_at}
 use Rattle.dns_message.specs.Sections.{field}
 use Rattle.dns_message.proofs.Written.{past}
@@ -65,6 +66,15 @@ pub fixed_long : (o : List ℕ) (at : ℕ) → 10 ≤ length (drop at o) → fix
   at + 10,
 )
 fixed_long o at n = fixed_first o at (drop at o) refl n
+
+-- a slice up to the end is all that lies after its start
+pub all_after : (o : List ℕ) (at : ℕ) → take (length o - at) (drop at o) ≡ drop at o
+all_after o at = take_all (length o - at) (drop at o) (omega (arith, length-drop at o))
+
+pub fixed_read : (o : List ℕ) (at : ℕ) (seen : List ℕ) (rtype class high low ttl size : ℕ) → seen ≡ drop at o → 10 ≤ length (drop at o) →
+    rtype ≡ field 0 seen → class ≡ field 2 seen → high ≡ field 4 seen → low ≡ field 6 seen → ttl ≡ 65536 * high + low →
+    size ≡ field 8 seen → Ok (record { rtype = rtype; class = class; ttl = ttl; size = size }, at + 10) ≡ fixed_at o at
+fixed_read o at seen rtype class high low ttl size e n r c h l t s = rw (r, c, t, h, l, s, e) (sym (fixed_long o at n))
 
 -- too few octets
 two_none : (o : List ℕ) (at : ℕ) → drop at o ≡ [] → two_at o at ≡ Err ShortInput
