@@ -1,5 +1,6 @@
 pub mod Coming
 pub mod Written
+mod FixedAt
 pub mod Plains
 pub mod OptionLaws
 pub mod TypedWritten

@@ -76,7 +76,7 @@ impl<'a> RecordFields<'a> {
             size: self.rdata.size() as u16,
         };
         push_fixed(target, fields)?;
-        self.rdata.compose(alloc, target)
+        self.rdata.write(alloc, target)
     }
 }
 

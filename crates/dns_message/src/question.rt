@@ -186,6 +186,7 @@ impl<'a> ComposeQuestion for QuestionRef<'a> {
 }
 
 /// The question at a place of a message, in octets from its start, and the place after it (RFC 1035, section 4.1.2).
+#[inline(always)]
 #[tactic(auto, unfolding(crate::specs::Read::question_at))]
 pub fn question_in<'a>(message: &'a [u8], at: usize) -> Result<(QuestionRef<'a>, usize), ParseError>
     requires { at ≤ length message.now }
@@ -256,6 +257,7 @@ impl<'a> Iterator for QuestionIter<'a> {
 
     ghost remaining = { item_count (λ i. i) };
 
+    #[inline(always)]
     #[tactic(auto, using(crate::proofs::Coming::coming))]
     fn next(&mut self) -> Option<Result<QuestionRef<'a>, ParseError>> {
         if self.left == 0 {

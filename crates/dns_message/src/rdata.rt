@@ -188,7 +188,7 @@ impl RecordData {
     }
 
     /// Appends the data's octets, or some of them.
-    fn write(&self, alloc: Global, target: &mut Vec<u8>) -> Result<(), OutOfMemory>
+    pub(crate) fn write(&self, alloc: Global, target: &mut Vec<u8>) -> Result<(), OutOfMemory>
         ensures ok { OnOk result (target.new.items ≡ target.old.items ++ data_octets self.now) }
         ensures err { OnErr result (take (length target.old.items) target.new.items ≡ target.old.items) }
     {

@@ -50,6 +50,7 @@ pub(crate) fn ttl_in(message: &[u8], at: usize) -> Result<(Ttl, usize), ParseErr
 }
 
 /// The next n octets of a message, and the place after them.
+#[inline(always)]
 #[tactic(auto, unfolding(crate::specs::Read::octets_at))]
 pub(crate) fn octets_in(message: &[u8], n: usize, at: usize) -> Result<(&[u8], usize), ParseError>
     requires { at ≤ length message.now }

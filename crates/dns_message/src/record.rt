@@ -93,7 +93,7 @@ impl Record {
     {
         self.owner.compose(alloc, target)?;
         push_fixed(target, self.fields())?;
-        self.rdata.compose(alloc, target)
+        self.rdata.write(alloc, target)
     }
 
     /// What stands between the owner and the data.
@@ -216,6 +216,7 @@ impl<'a> RecordRef<'a> {
 }
 
 /// The record at a place of a message, in octets from its start, and the place after it (RFC 1035, section 4.1.3).
+#[inline(always)]
 #[tactic(auto, unfolding(crate::specs::Standing::standing_at))]
 pub fn record_in<'a>(message: &'a [u8], at: usize) -> Result<(RecordRef<'a>, usize), ParseError>
     requires { at ≤ length message.now }
@@ -290,6 +291,7 @@ impl<'a> Iterator for RecordIter<'a> {
 
     ghost remaining = { item_count (λ i. i) };
 
+    #[inline(always)]
     #[tactic(auto, using(crate::proofs::Coming::coming))]
     fn next(&mut self) -> Option<Result<RecordRef<'a>, ParseError>> {
         if self.left == 0 {

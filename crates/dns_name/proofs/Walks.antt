@@ -1,6 +1,7 @@
 -- How the walk along a name goes on.
-use Rattle.std.proofs.Common.{Bool, ◌≡◌, ℕ, zero, suc, ◌+◌, ◌-◌, ◌≤◌, ◌<◌, List, [], ◌∷◌, length, drop, take, Option, Some, None, Ok, Err, Result, refl, subst, arith, IsOk, IfSome, true, false, if◌then◌else◌, nat_lt, unwrap_or, length-drop, length-take}
+use Rattle.std.proofs.Common.{Bool, ◌≡◌, ℕ, zero, suc, ◌+◌, ◌-◌, ◌≤◌, ◌<◌, List, [], ◌∷◌, length, drop, take, Option, Some, None, Ok, Err, Result, refl, subst, arith, IsOk, IfSome, true, false, if◌then◌else◌, nat_lt, unwrap_or, get_or, drop-cons, length-drop, length-take}
 use Rattle.std.proofs.lemmas.Bool.Decides.{nat_tests}
+use Rattle.std.proofs.lemmas.List.{get_or-take}
 use Rattle.dns_name.specs.declared.error.ParseError.{ParseError}
 use Rattle.dns_name.specs.declared.error.ParseError.TheVariants.{Form}
 use Rattle.dns_name.specs.declared.error.FormReason.TheVariants.{Hops, LongName}
@@ -197,3 +198,42 @@ never n hops e = absurd (cc)
 
 pub start_within : (limit at : ℕ) (o : List ℕ) → at ≤ limit → limit ≤ length o → at ≤ length (near limit 0 o)
 start_within limit at o h k = omega (arith, length-take limit o)
+
+-- the octets that are seen from a place before the limit
+near_seen : (o : List ℕ) (at limit : ℕ) → at < limit → limit ≤ length o → drop at (near limit 0 o) ≡ get_or o at 0 ∷ drop (suc at) (take limit o)
+near_seen o at limit h k =
+    let l = length-take limit o in
+    let b : at < length (take limit o) = omega (arith, l) in
+    rw (get_or-take limit o at 0 h) at (drop-cons (take limit o) at 0 b)
+
+-- the piece at such a place, by its first octet
+root_there : (b : Bool) (at : ℕ) (d more : List ℕ) → d ≡ 0 ∷ more → name_piece_of b at d ≡ Ok End
+root_there b at d more e = rw e refl
+
+pub piece_root : (o : List ℕ) (r : NameBounds) (at : ℕ) → at < r.limit → r.limit ≤ length o → get_or o at 0 ≡ 0 → name_piece r 0 o at ≡ Ok End
+unfolding name_piece
+piece_root o r at h k z = root_there r.pointers at (drop at (near r.limit 0 o)) (drop (suc at) (take r.limit o)) (rw z at (near_seen o at r.limit h k))
+
+text_there : (b : Bool) (at n : ℕ) (more : List ℕ) → 0 < n → n < 64 → n ≤ length more → name_piece_of b at (n ∷ more) ≡ Ok (Text n)
+text_there true at n more h k l = grind (arith, nat_tests)
+text_there false at n more h k l = grind (arith, nat_tests)
+
+text_here : (b : Bool) (at n : ℕ) (d more : List ℕ) → d ≡ n ∷ more → 0 < n → n < 64 → n ≤ length more → name_piece_of b at d ≡ Ok (Text n)
+text_here b at n d more e h k l = rw e (text_there b at n more h k l)
+
+pub piece_label : (o : List ℕ) (r : NameBounds) (at n : ℕ) → at < r.limit → r.limit ≤ length o → get_or o at 0 ≡ n → 0 < n → n < 64 → at + n + 1 ≤ r.limit → name_piece r 0 o at ≡ Ok (Text n)
+unfolding name_piece
+piece_label o r at n h k e p q s =
+    let t = length-take r.limit o in
+    let d = length-drop (suc at) (take r.limit o) in
+    text_here r.pointers at n (drop at (near r.limit 0 o)) (drop (suc at) (take r.limit o)) (rw e at (near_seen o at r.limit h k)) p q (omega (arith, t, d))
+
+-- the walk along labels alone, where the size so far is what lies after the start
+pub plain_root : (o : List ℕ) (r : NameBounds) (at size : ℕ) → at < r.limit → r.limit ≤ length o → get_or o at 0 ≡ 0 → end_by None (rest_of o r at size 0) ≡ Ok (at + 1)
+plain_root o r at size h k z = walk_end o r at size 0 None (piece_root o r at h k z)
+
+pub plain_label : (o : List ℕ) (r : NameBounds) (start at n : ℕ) → start ≤ at → at < r.limit → r.limit ≤ length o → get_or o at 0 ≡ n → 0 < n → n < 64 → at + n + 1 < r.limit → at + n + 1 < start + 255 →
+    end_by None (rest_of o r at (at - start) 0) ≡ end_by None (rest_of o r (at + n + 1) (at + n + 1 - start) 0)
+plain_label o r start at n b h k e p q l m =
+    let s : at + n + 1 - start ≡ at - start + n + 1 = omega arith in
+    rw s (walk_text o r at (at - start) 0 None n (piece_label o r at n h k e p q (omega arith)) (omega arith))

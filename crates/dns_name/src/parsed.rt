@@ -1,6 +1,6 @@
 //! Names of a message, pointers followed.
 
-ghost use Rattle.std.specs.Prelude.{◌≡◌, ◌≤◌, ◌+◌, ◌↔◌, length, IsTrue, IfOk, Some, ⊤};
+ghost use Rattle.std.specs.Prelude.{◌≡◌, ◌≤◌, ◌+◌, ◌↔◌, length, IsTrue, IfOk, IfSome, Ok, Some, ⊤};
 ghost use Rattle.std.specs.Cmp.{partial_equiv_from_equiv};
 ghost use Rattle.dns_name.specs.Canonical.{same_name, same_name_equiv};
 ghost use Rattle.dns_name.specs.Labels.{IsName, EndsWith, folded};
@@ -83,7 +83,45 @@ impl<'a> fmt::Debug for ParsedName<'a> {
 }
 
 /// The place after the name that is read so at a place.
+#[inline(always)]
 pub(crate) fn end_at(message: &[u8], reach: NameBounds, start: usize) -> Result<usize, ParseError>
+    requires first { start ≤ reach.limit }
+    requires limited { reach.limit ≤ length message.now }
+    ensures value { result ≡ end_of (name_by message.now reach start) }
+    ensures within { IfOk result (λ end. end ≤ reach.limit) }
+{
+    match plain_end(message, reach, start) {
+        Some(end) => Ok(end),
+        None => walked_end(message, reach, start),
+    }
+}
+
+/// The place after the name at a place, if it is labels alone up to the root's and has at most 255 octets.
+/// None if a pointer comes, or the name is refused.
+#[inline(always)]
+fn plain_end(message: &[u8], reach: NameBounds, start: usize) -> Option<usize>
+    requires first { start ≤ reach.limit }
+    requires limited { reach.limit ≤ length message.now }
+    ensures value { IfSome result (λ end. end_of (name_by message.now reach start) ≡ Ok end) }
+    ensures within { IfSome result (λ end. end ≤ reach.limit) }
+{
+    let bound = start + (reach.limit - start).min(255);
+    let mut at = start;
+    'labels: while at < bound {
+        let head = message[at] as usize;
+        if head == 0 {
+            return Some(at + 1);
+        }
+        if head > 63 {
+            return None;
+        }
+        at = at + head + 1;
+    }
+    None
+}
+
+/// The place after the name that is read so at a place, piece by piece, pointers followed where they are.
+fn walked_end(message: &[u8], reach: NameBounds, start: usize) -> Result<usize, ParseError>
     requires first { start ≤ reach.limit }
     requires limited { reach.limit ≤ length message.now }
     ensures value { result ≡ end_of (name_by message.now reach start) }

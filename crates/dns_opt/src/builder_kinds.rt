@@ -1,6 +1,6 @@
 //! Options of each kind for an OPT record under construction.
 
-ghost use Rattle.std.specs.Prelude.{◌≡◌, ◌+◌, ◌≤◌, ◌<◌, [], ◌++◌, length, replicate, take, IfOk};
+ghost use Rattle.std.specs.Prelude.{◌≡◌, [], replicate};
 ghost use Rattle.std.specs.Option.{option_copied};
 ghost use Rattle.dns_name.specs.Labels.{spell};
 ghost use Rattle.dns_kinds.specs.Extended.{extended, extended_octets};
@@ -11,33 +11,13 @@ ghost use Rattle.dns_opt.specs.Drafts.{Cloned, PushedIn};
 
 use crate::builder::OptBuilder;
 use crate::record::OptRecordRef;
-use dns_algs::{DauVariant, DhuVariant, N3uVariant, UnderstoodRef, Variant};
+use crate::written::{Numbers, Zeros};
+use dns_algs::{DauVariant, DhuVariant, N3uVariant, Variant};
 use dns_cookie::Cookie;
 use dns_kinds::{ChainRef, ClientSubnet, Expire, ExtendedErrorRef, IdleTimeout, TcpKeepalive};
-use dns_lists::{KeyTagRef, NsidRef, PaddingRef};
-use dns_name::{
-    BuildDataError, ExtendedErrorCode, IpAddr, LongOptData, Name, OutOfMemory, SecurityAlgorithm,
-};
+use dns_lists::{KeyTagRef, NsidRef};
+use dns_name::{BuildDataError, ExtendedErrorCode, IpAddr, Name, SecurityAlgorithm};
 use std::alloc::Global;
-
-/// The numbers of algorithms.
-fn numbers(alloc: Global, algorithms: &[SecurityAlgorithm]) -> Result<Vec<u8>, OutOfMemory>
-    ensures { IfOk result (λ v. v.items ≡ algorithms.now) }
-{
-    let mut octets = Vec::new(alloc);
-    'each: for i in 0..algorithms.len() {
-        octets.push(algorithms[i].to_int())?;
-    }
-    Ok(octets)
-}
-
-/// A vector of `len` zeros.
-fn zeros(alloc: Global, len: u16) -> Result<Vec<u8>, OutOfMemory>
-    ensures { IfOk result (λ v. v.items ≡ replicate len 0) }
-{
-    let octets = vec![in alloc; 0u8; len as usize]?;
-    Ok(octets)
-}
 
 impl OptBuilder {
     fn understood<K: Variant>(
@@ -47,26 +27,8 @@ impl OptBuilder {
     ) -> Result<(), BuildDataError>
         ensures { PushedIn K.number algorithms.now self.old self.new result }
     {
-        if algorithms.len() + self.options.len() + 4 > 65535 {
-            return Err(BuildDataError::LongOptData);
-        }
-        match numbers(alloc, algorithms) {
-            Ok(octets) => self.understood_of::<K>(alloc, octets),
-            Err(_) => Err(BuildDataError::OutOfMemory),
-        }
-    }
-
-    fn understood_of<K: Variant>(
-        &mut self,
-        alloc: Global,
-        octets: Vec<u8>,
-    ) -> Result<(), BuildDataError>
-        ensures { PushedIn K.number octets.items self.old self.new result }
-    {
-        match UnderstoodRef::<K>::from_slice(octets.as_slice()) {
-            Ok(list) => self.push(alloc, &list),
-            Err(_) => Err(BuildDataError::LongOptData),
-        }
+        let numbers = Numbers::<K>::of(algorithms)?;
+        self.push(alloc, &numbers)
     }
 
     /// Appends the DNSSEC algorithms that are understood (RFC 6975).
@@ -191,22 +153,7 @@ impl OptBuilder {
     pub fn padding(&mut self, alloc: Global, len: u16) -> Result<(), BuildDataError>
         ensures { PushedIn 12 (replicate len 0) self.old self.new result }
     {
-        if self.options.len() + 4 + len as usize > 65535 {
-            return Err(BuildDataError::LongOptData);
-        }
-        match zeros(alloc, len) {
-            Ok(octets) => self.padding_of(alloc, octets),
-            Err(_) => Err(BuildDataError::OutOfMemory),
-        }
-    }
-
-    fn padding_of(&mut self, alloc: Global, octets: Vec<u8>) -> Result<(), BuildDataError>
-        ensures { PushedIn 12 octets.items self.old self.new result }
-    {
-        match PaddingRef::from_slice(octets.as_slice()) {
-            Ok(padding) => self.push(alloc, &padding),
-            Err(_) => Err(BuildDataError::LongOptData),
-        }
+        self.push(alloc, &Zeros { len })
     }
 
     /// Takes head and options of another OPT record in place of its own. A refused call leaves the record.

@@ -34,6 +34,7 @@ mod header;
 mod laws;
 mod message_opt;
 mod record;
+mod written;
 
 pub use build_opt::BuildOpt;
 pub use builder::OptBuilder;

@@ -19,6 +19,9 @@ fn header(code: u16, len: u16) -> [u8; 4]
     ]
 }
 
+/// How many octets there is room for, at least, when an option is appended.
+const ROOM: usize = 64;
+
 /// Appends an option. If it is refused because memory ran out, the vector is as before.
 pub fn append_value<D: ComposeOptData>(
     alloc: Global,
@@ -29,7 +32,9 @@ pub fn append_value<D: ComposeOptData>(
         else octets.old.items) }
 {
     let start = octets.len();
-    octets.extend_from_slice(&header(value.code().to_int(), value.compose_len()))?;
+    let len = value.compose_len();
+    octets.reserve((4 + len as usize).max(ROOM))?;
+    octets.extend_from_slice(&header(value.code().to_int(), len))?;
     if let Err(error) = value.compose_option(alloc, octets) {
         octets.truncate(start);
         return Err(error);

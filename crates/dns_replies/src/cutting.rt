@@ -265,8 +265,7 @@ fn question_added(
 ) -> Result<bool, OutOfMemory>
     ensures { IfOk result (Added target.old target.new (with_question target.old question.now)) }
 {
-    let question = question.to_question(alloc)?;
-    match target.push(alloc, &question) {
+    match target.push_composed(alloc, question) {
         Ok(()) => Ok(true),
         Err(PushError::ShortBuf) => Ok(false),
         Err(PushError::OutOfMemory) => Err(OutOfMemory),

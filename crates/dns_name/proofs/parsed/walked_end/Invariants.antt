@@ -1,6 +1,6 @@
 use Rattle.std.proofs.Common.{◌≡◌, ◌≤◌, length, ◌+◌, ◌-◌, IfSome, None}
 use Rattle.dns_name.specs.Names.{name_by, end_of, end_by, rest_of, near}
-use Rattle.dns_name.proofs.parsed.end_at.Given as goal
+use Rattle.dns_name.proofs.parsed.walked_end.Given as goal
 
 abbrev pub invariant-pieces : goal.invariant-pieces
 invariant-pieces l = record {

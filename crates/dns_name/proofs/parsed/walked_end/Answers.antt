@@ -3,7 +3,7 @@ use Rattle.std.proofs.lemmas.Result.{err_from_is_err_and}
 use Rattle.dns_name.specs.declared.piece.Piece.TheVariants.{End, Text, Jump}
 use Rattle.dns_name.specs.Names.{name_by, name_piece}
 use Rattle.dns_name.proofs.Walks.{walk_err, walk_end, walk_text, walk_long, walk_jump, walk_hops, text_within, jump_back, end_within, or_limited, never, near_short, near_jumped, start_within}
-use Rattle.dns_name.proofs.parsed.end_at.Goals as goal
+use Rattle.dns_name.proofs.parsed.walked_end.Goals as goal
 
 pub pieces-init : goal.pieces-init
 unfolding name_by
