@@ -20,7 +20,7 @@ impl MessageBuilder {
     {
         let draft = Draft::new(alloc)?;
         Ok(Builder {
-            draft: Box::new(alloc, draft)?,
+            draft,
             stage: PhantomData,
         })
     }
