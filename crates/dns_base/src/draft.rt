@@ -131,17 +131,37 @@ fn blank(alloc: Global) -> Result<Vec<u8>, OutOfMemory>
     Ok(octets)
 }
 
+/// Two octets for a length, and a header of zeros, in memory that is given if that has room for a usual reply.
+fn blank_in(alloc: Global, memory: Vec<u8>) -> Result<Vec<u8>, OutOfMemory>
+    ensures { IfOk result (λ v. v.items ≡ replicate 14 0) }
+{
+    if memory.len() < 14 || memory.capacity() < ROOM {
+        return blank(alloc);
+    }
+    let mut octets = memory;
+    octets.truncate(14);
+    octets.as_mut_slice().copy_from_slice(&[0; 14]);
+    Ok(octets)
+}
+
 impl Draft {
-    /// The empty message with a zero header.
-    pub(crate) fn new(alloc: Global) -> Result<Draft, OutOfMemory>
+    /// The empty message with a zero header, in memory that is given.
+    pub(crate) fn in_memory(alloc: Global, memory: Vec<u8>) -> Result<Draft, OutOfMemory>
         ensures { IfOk result (λ b. b ≡ record { message = empty; limit = 65535 }) }
     {
-        let octets = blank(alloc)?;
+        let octets = blank_in(alloc, memory)?;
         Ok(Draft {
             octets,
             starts: Starts::all(12),
             limit: 65535,
         })
+    }
+
+    /// The empty message with a zero header.
+    pub(crate) fn new(alloc: Global) -> Result<Draft, OutOfMemory>
+        ensures { IfOk result (λ b. b ≡ record { message = empty; limit = 65535 }) }
+    {
+        Draft::in_memory(alloc, Vec::new(alloc))
     }
 
     /// A copy, with room for a small record more.
