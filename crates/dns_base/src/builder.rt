@@ -24,10 +24,10 @@ pub use stage::{RecordStage, Stage};
 use std::alloc::Global;
 use std::marker::{Model, PhantomData};
 
-/// A message that is being built, at a stage: what is after that is empty. It is moved often, so its state stands in a box.
+/// A message that is being built, at a stage: what is after that is empty.
 #[derive(Debug, Drop)]
 pub struct Builder<S: Stage> {
-    draft: Box<Draft>,
+    draft: Draft,
     stage: PhantomData<S>,
 }
 
@@ -36,9 +36,9 @@ impl<S: Stage> Model for Builder<S> {
 
     ghost Value = { Built };
 
-    ghost view = { λ b. b.draft.value };
+    ghost view = { λ b. b.draft };
 
-    ghost invariant = { λ b. IsWithin S.extent b.draft.value.message };
+    ghost invariant = { λ b. IsWithin S.extent b.draft.message };
 }
 
 /// A message that nothing but a header was built of yet.
@@ -181,7 +181,7 @@ impl<S: Stage> Builder<S> {
     {
         let draft = self.draft.try_clone(alloc)?;
         Ok(Builder {
-            draft: Box::new(alloc, draft)?,
+            draft,
             stage: PhantomData,
         })
     }
@@ -191,7 +191,7 @@ impl<S: Stage> Builder<S> {
         ensures value { result ≡ wire self.message }
         ensures lawful { IsMessage self.message }
     {
-        Box::into_inner(self.draft).into_message()
+        self.draft.into_message()
     }
 
     /// Ends the build: the message as a datagram, or after its length for a stream.
@@ -199,6 +199,6 @@ impl<S: Stage> Builder<S> {
         ensures value { result ≡ wire self.message }
         ensures lawful { IsMessage self.message }
     {
-        Box::into_inner(self.draft).finish()
+        self.draft.finish()
     }
 }

@@ -45,16 +45,18 @@ fn count_place(section: Section) -> usize
 /// Where the sections of records begin in a message, in octets from its start.
 #[derive(Clone, Copy, Debug)]
 struct Starts {
-    answer: usize,
-    authority: usize,
-    additional: usize,
+    answer: u16,
+    authority: u16,
+    additional: u16,
 }
 
 impl Starts {
     /// All at one place.
     fn all(place: usize) -> Starts
+        requires { place ≤ 65535 }
         ensures { result ≡ all_at place }
     {
+        let place = place as u16;
         Starts {
             answer: place,
             authority: place,
@@ -64,19 +66,23 @@ impl Starts {
 
     /// Where a section begins.
     fn of(self, section: Section) -> usize
-        ensures { result ≡ start_in self section }
+        ensures value { result ≡ start_in self section }
+        ensures short { result ≤ 65535 }
     {
-        match section {
+        let place = match section {
             Section::Answer => self.answer,
             Section::Authority => self.authority,
             Section::Additional => self.additional,
-        }
+        };
+        place as usize
     }
 
     /// These starts, but every section after the given one begins at `place`.
     fn behind(self, section: Section, place: usize) -> Starts
+        requires { place ≤ 65535 }
         ensures { result ≡ moved_behind self section place }
     {
+        let place = place as u16;
         match section {
             Section::Answer => Starts {
                 authority: place,
@@ -97,7 +103,7 @@ impl Starts {
 pub(crate) struct Draft {
     octets: Vec<u8>,
     starts: Starts,
-    limit: usize,
+    limit: u16,
 }
 
 impl Model for Draft {
@@ -125,17 +131,37 @@ fn blank(alloc: Global) -> Result<Vec<u8>, OutOfMemory>
     Ok(octets)
 }
 
+/// Two octets for a length, and a header of zeros, in memory that is given if that has room for a usual reply.
+fn blank_in(alloc: Global, memory: Vec<u8>) -> Result<Vec<u8>, OutOfMemory>
+    ensures { IfOk result (λ v. v.items ≡ replicate 14 0) }
+{
+    if memory.len() < 14 || memory.capacity() < ROOM {
+        return blank(alloc);
+    }
+    let mut octets = memory;
+    octets.truncate(14);
+    octets.as_mut_slice().copy_from_slice(&[0; 14]);
+    Ok(octets)
+}
+
 impl Draft {
-    /// The empty message with a zero header.
-    pub(crate) fn new(alloc: Global) -> Result<Draft, OutOfMemory>
+    /// The empty message with a zero header, in memory that is given.
+    pub(crate) fn in_memory(alloc: Global, memory: Vec<u8>) -> Result<Draft, OutOfMemory>
         ensures { IfOk result (λ b. b ≡ record { message = empty; limit = 65535 }) }
     {
-        let octets = blank(alloc)?;
+        let octets = blank_in(alloc, memory)?;
         Ok(Draft {
             octets,
             starts: Starts::all(12),
             limit: 65535,
         })
+    }
+
+    /// The empty message with a zero header.
+    pub(crate) fn new(alloc: Global) -> Result<Draft, OutOfMemory>
+        ensures { IfOk result (λ b. b ≡ record { message = empty; limit = 65535 }) }
+    {
+        Draft::in_memory(alloc, Vec::new(alloc))
     }
 
     /// A copy, with room for a small record more.
@@ -188,14 +214,14 @@ impl Draft {
         ensures value { result ≡ self.now.limit }
         ensures limited { result ≤ 65535 }
     {
-        self.limit
+        self.limit as usize
     }
 
     /// Lets the message take that many octets, at most 65,535.
     pub(crate) fn set_push_limit(&mut self, limit: usize)
         ensures { self.new ≡ record self.old { limit = min limit 65535 } }
     {
-        self.limit = limit.min(65535);
+        self.limit = limit.min(65535) as u16;
     }
 
     /// Sets the header.
@@ -214,7 +240,7 @@ impl Draft {
         requires { NoRecords self.old.message }
         ensures { Pushes self.old self.new (with_question self.old (Q.asked question.now)) result }
     {
-        if self.octets.len() - 2 + question.compose_len() > self.limit {
+        if self.octets.len() - 2 + question.compose_len() > self.limit as usize {
             return Err(PushError::ShortBuf);
         }
         question.compose_question(alloc, &mut self.octets)?;
@@ -234,7 +260,7 @@ impl Draft {
         requires lawful { R.is_lawful added.now }
         ensures { Pushes self.old self.new (with_record section self.old (R.resource added.now)) result }
     {
-        if self.octets.len() - 2 + added.record_len() > self.limit {
+        if self.octets.len() - 2 + added.record_len() > self.limit as usize {
             return Err(PushError::ShortBuf);
         }
         added.compose_record(alloc, &mut self.octets)?;
@@ -269,7 +295,7 @@ impl Draft {
         ensures spelt { AreSpelt (wire self.now.message) (length self.now.message.additional) result }
         ensures read { records_at (wire self.now.message) (length self.now.message.additional) result ≡ self.now.message.additional }
     {
-        self.starts.additional
+        self.starts.additional as usize
     }
 
     /// The additional records of other types than one.
@@ -316,7 +342,7 @@ impl Draft {
         ensures { Pushes self.old self.new (with_record Section.Additional (less_type rtype self.old) (R.resource added.now)) result }
     {
         let others = self.others(rtype);
-        if others.start + others.size + added.record_len() > self.limit {
+        if others.start + others.size + added.record_len() > self.limit as usize {
             return Err(PushError::ShortBuf);
         }
         added.compose_record(alloc, &mut self.octets)?;

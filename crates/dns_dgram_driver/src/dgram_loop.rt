@@ -1,12 +1,14 @@
 //! What the loop of datagrams works in.
 
 use crate::running::Running;
+use crate::spare::Spare;
 use dns_book::Book;
 use dns_recorder::Waits;
 use dns_service::SharedService;
 use std::alloc::Global;
 
 /// What datagrams are served with, where what is kept of them stands, and how many waits ended in vain since one came or was sent.
+/// After it the memory that is used again.
 #[derive(Drop)]
 pub(crate) struct DgramLoop<'a, R, W: SharedService, D, C, J> {
     pub(crate) rt: &'a R,
@@ -18,4 +20,5 @@ pub(crate) struct DgramLoop<'a, R, W: SharedService, D, C, J> {
     pub(crate) journal: &'a mut J,
     pub(crate) state: &'a mut Running<W>,
     pub(crate) waits: Waits,
+    pub(crate) spare: &'a mut Spare,
 }

@@ -1,6 +1,6 @@
 //! Exchanges begin, and are polled.
 
-ghost use Rattle.std.specs.Prelude.{◌≡◌, ◌≢◌, ℕ, ◌<◌, ◌++◌, IfOk, OnOk};
+ghost use Rattle.std.specs.Prelude.{◌≡◌, ◌≢◌, ℕ, ◌<◌, ◌++◌, IfOk, OnOk, true};
 ghost use Rattle.std.specs.VecDeque.{deque_len};
 ghost use Rattle.dns_session.specs.Serving.{Serving, serving};
 ghost use Rattle.dns_service.specs.PolledRequest.{request_answer};
@@ -9,10 +9,11 @@ ghost use Rattle.dns_dgram_driver.specs.Steps.{TurnedExchange, TurnedOne, Turned
 
 use crate::notes::EventHead;
 use crate::running::{KeptExchange, Running};
+use crate::spare::Spare;
 use dns_io::Packet;
 use dns_name::SocketAddr;
 use dns_service::{Octets, OutOfMemory, SharedService};
-use dns_session::{KeptRequest, begin_exchange};
+use dns_session::{KeptRequest, begin_exchange_in};
 use std::alloc::Global;
 use std::collections::VecDeque;
 
@@ -71,6 +72,7 @@ pub(crate) fn begin<W: SharedService>(
     head: EventHead,
     addr: SocketAddr,
     octets: Octets,
+    spare: &mut Spare,
 ) -> Result<Option<Packet>, OutOfMemory>
     requires { W.can_call service.now }
     ensures here { IfOk result (λ packet. Begun (request_answer W.Future.answer W.Stream.answer)
@@ -80,7 +82,10 @@ pub(crate) fn begin<W: SharedService>(
     ensures rest { state.new ≡ record state.old { exchanges = state.new.exchanges } }
 {
     let config = &state.heard.dgram;
-    match begin_exchange(alloc, service, addr, head.at, head.secs, octets, config) {
+    let spare = &mut spare.message;
+    match begin_exchange_in(
+        alloc, service, addr, head.at, head.secs, octets, config, spare,
+    ) {
         Ok((request, sent)) => enter(&mut state.exchanges, head.client, request, addr, sent),
         Err(error) => Err(error),
     }
@@ -114,13 +119,26 @@ fn turn_front<W: SharedService>(
     Ok((packet, done))
 }
 
+/// The first exchange is kept no more, and its message is spare.
+#[inline(never)]
+fn let_go<W: SharedService>(exchanges: &mut VecDeque<KeptExchange<W>>, spare: &mut Spare)
+    requires { 0 < deque_len exchanges.old }
+    ensures { exchanges.new.items ≡ gone_behind true exchanges.old.items }
+{
+    spare.keep_message(exchanges.pop_front());
+}
+
 /// The first exchange goes after all others, or is kept no more if its request is done.
-fn go_behind<W: SharedService>(exchanges: &mut VecDeque<KeptExchange<W>>, done: bool)
+fn go_behind<W: SharedService>(
+    exchanges: &mut VecDeque<KeptExchange<W>>,
+    done: bool,
+    spare: &mut Spare,
+)
     requires { 0 < deque_len exchanges.old }
     ensures { exchanges.new.items ≡ gone_behind done exchanges.old.items }
 {
     if done {
-        let _ended = exchanges.pop_front();
+        let_go(exchanges, spare);
     } else {
         exchanges.rotate_left(1);
     }
@@ -138,6 +156,7 @@ pub(crate) fn number_first<W: SharedService>(exchanges: &VecDeque<KeptExchange<W
 pub(crate) fn turn_first<W: SharedService>(
     alloc: Global,
     exchanges: &mut VecDeque<KeptExchange<W>>,
+    spare: &mut Spare,
 ) -> Result<(Option<Packet>, bool), OutOfMemory>
     requires { 0 < deque_len exchanges.old }
     ensures here { IfOk result (λ p. (n : ℕ) (answers : Serving) → IsFirstNumber n exchanges.old.items
@@ -148,6 +167,6 @@ pub(crate) fn turn_first<W: SharedService>(
     ensures order { IfOk result (λ p. numbers_of exchanges.new.items ≡ gone_behind p.1 (numbers_of exchanges.old.items)) }
 {
     let (packet, done) = turn_front(alloc, exchanges)?;
-    go_behind(exchanges, done);
+    go_behind(exchanges, done, spare);
     Ok((packet, done))
 }

@@ -36,6 +36,7 @@ mod receiving;
 mod running;
 mod sends;
 mod serving;
+mod spare;
 
 pub use dns_recorder::{MAX_WAIT_MS, Recorder, Silent, VecRecorder, pause};
 pub use serving::{DgramEnd, serve_datagrams, serve_datagrams_with_sends};

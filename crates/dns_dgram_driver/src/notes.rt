@@ -6,6 +6,7 @@ ghost use Rattle.dns_events.specs.declared.event.EventKind.TheVariants.{Datagram
 ghost use Rattle.dns_recorder.specs.Notes.{NoteMoves};
 ghost use Rattle.dns_dgram_driver.specs.Steps.{EventDated, head_of, event_with, noted_octets};
 
+use crate::spare::Spare;
 use dns_io::Clock;
 use dns_name::SocketAddr;
 use dns_recorder::{Recorder, now_is};
@@ -109,11 +110,13 @@ fn noted_octets(kind: EventKind) -> Octets
     }
 }
 
-/// Notes a datagram of now, under a number. The octets that were noted are given back.
+/// Notes a datagram of now, under a number, copied into what is spare. The octets that were noted are given back.
+#[inline(always)]
 pub(crate) fn note_datagram<C: Clock, J: Recorder>(
     alloc: Global,
     clock: &mut C,
     journal: &mut J,
+    spare: &mut Spare,
     client: u64,
     octets: &[u8],
     from: SocketAddr,
@@ -125,7 +128,7 @@ pub(crate) fn note_datagram<C: Clock, J: Recorder>(
     ensures no_memory { OnErr result (Observed (C.tells clock.new × J.tells journal.new) (C.tells clock.old × J.tells journal.old)
         (J.noted journal.new ≡ J.noted journal.old)) }
 {
-    let copy = Octets::from_slice(alloc, octets)?;
+    let copy = spare.copied(alloc, octets)?;
     let kind = EventKind::Datagram {
         addr: from,
         octets: copy,

@@ -41,7 +41,7 @@ impl<R: Wait, W: SharedService, D: AsyncDgramSock, C: Clock, J: Recorder> DgramL
             (λ v. StepFails (request_answer W.Future.answer W.Stream.answer)
             (serving (W.answer self.old.service.now) (W.hint self.old.service.now)) true v s w') w) result self.old self.new }
     {
-        match turn_first(self.alloc, &mut self.state.exchanges) {
+        match turn_first(self.alloc, &mut self.state.exchanges, self.spare) {
             Ok((packet, done)) => match self.send_for(head, packet) {
                 Ok(()) => Ok(done),
                 Err(error) => Err(error),

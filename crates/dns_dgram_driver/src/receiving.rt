@@ -37,6 +37,7 @@ impl<R: Wait, W: SharedService, D: AsyncDgramSock, C: Clock, J: Recorder> DgramL
 > {
     /// Begins the exchange of a datagram that was noted, and sends what it leads to at once.
     #[tactic(auto, using(crate::proofs::Passes::passes_kept))]
+    #[inline(always)]
     fn begin_noted(
         &mut self,
         head: EventHead,
@@ -58,7 +59,15 @@ impl<R: Wait, W: SharedService, D: AsyncDgramSock, C: Clock, J: Recorder> DgramL
             (λ v. BeginFails (request_answer W.Future.answer W.Stream.answer)
             (serving (W.answer self.old.service.now) (W.hint self.old.service.now)) octets from v s w') w) result self.old self.new }
     {
-        match begin(self.alloc, self.service, self.state, head, from, octets) {
+        match begin(
+            self.alloc,
+            self.service,
+            self.state,
+            head,
+            from,
+            octets,
+            self.spare,
+        ) {
             Ok(packet) => {
                 self.state.next += 1;
                 self.send_for(head, packet)
@@ -69,6 +78,7 @@ impl<R: Wait, W: SharedService, D: AsyncDgramSock, C: Clock, J: Recorder> DgramL
 
     /// Notes a datagram that was received, and begins its exchange.
     #[tactic(auto, using(crate::proofs::Passes::passes_same))]
+    #[inline(always)]
     fn take_datagram(&mut self, octets: &[u8], from: SocketAddr) -> Result<(), OutOfMemory>
         requires can_call { W.can_call self.old.service.now }
         requires running { self.old.state.now.heard.closed ≡ false }
@@ -83,7 +93,15 @@ impl<R: Wait, W: SharedService, D: AsyncDgramSock, C: Clock, J: Recorder> DgramL
             (serving (W.answer self.old.service.now) (W.hint self.old.service.now)) octets.now from) result self.old self.new }
     {
         let number = self.state.next;
-        match note_datagram(self.alloc, self.clock, self.journal, number, octets, from) {
+        match note_datagram(
+            self.alloc,
+            self.clock,
+            self.journal,
+            self.spare,
+            number,
+            octets,
+            from,
+        ) {
             Ok((head, octets)) => self.begin_noted(head, octets, from),
             Err(error) => Err(error),
         }

@@ -67,7 +67,7 @@ pub(crate) fn deliver<R: Wait, D: AsyncDgramSock, C: Clock, J: Recorder>(
     journal: &mut J,
     send_failed: &mut bool,
     head: EventHead,
-    packet: Option<Packet>,
+    packet: &Option<Packet>,
     limit: u64,
 ) -> Result<(), OutOfMemory>
     ensures receives { D.failed_receives sock.new ≡ D.failed_receives sock.old }
@@ -75,7 +75,7 @@ pub(crate) fn deliver<R: Wait, D: AsyncDgramSock, C: Clock, J: Recorder>(
     ensures rose { SendsRose send_failed.old send_failed.new (D.failed_sends sock.old) (D.failed_sends sock.new) }
     ensures observed { OnOk result (Observed (D.tells sock.new × C.tells clock.new × J.tells journal.new)
         (D.tells sock.old × C.tells clock.old × J.tells journal.old)
-        (SendsOrFaults head (one_or_none packet) limit (J.noted journal.old) (J.noted journal.new) (D.sock_traffic sock.old)
+        (SendsOrFaults head (one_or_none packet.now) limit (J.noted journal.old) (J.noted journal.new) (D.sock_traffic sock.old)
         (D.sock_traffic sock.new)
         (D.failed_sends sock.old) (D.failed_sends sock.new) (C.readings clock.old) (C.readings clock.new))) }
     ensures no_memory { OnErr result (Observed (D.tells sock.new × C.tells clock.new × J.tells journal.new)
@@ -85,7 +85,7 @@ pub(crate) fn deliver<R: Wait, D: AsyncDgramSock, C: Clock, J: Recorder>(
     let Some(packet) = packet else {
         return Ok(());
     };
-    match send(rt, sock, clock, &packet, head.at, limit) {
+    match send(rt, sock, clock, packet, head.at, limit) {
         SendEnd::Sent => Ok(()),
         SendEnd::Late(at, secs) => {
             note_kind(alloc, journal, at, secs, head.client, EventKind::Fault)
@@ -124,7 +124,7 @@ impl<R: Wait, W: SharedService, D: AsyncDgramSock, C: Clock, J: Recorder> DgramL
         self.waits = self.waits.anew_where(packet.is_some());
         let limit = self.state.heard.dgram.write_timeout();
         let failed = &mut self.state.send_failed;
-        deliver(
+        let delivered = deliver(
             self.rt,
             self.alloc,
             self.sock,
@@ -132,8 +132,10 @@ impl<R: Wait, W: SharedService, D: AsyncDgramSock, C: Clock, J: Recorder> DgramL
             self.journal,
             failed,
             head,
-            packet,
+            &packet,
             limit,
-        )
+        );
+        self.spare.keep_packet(packet);
+        delivered
     }
 }

@@ -11,6 +11,7 @@ ghost use Rattle.dns_dgram_driver.specs.DatagramsServed.{LooksBy, MayCome, Recei
 use crate::dgram_loop::DgramLoop;
 use crate::looks::apply_news;
 use crate::running::{Running, begun, left};
+use crate::spare::Spare;
 use dns_admission::Look;
 use dns_book::{Book, BookSeat};
 use dns_io::{AsyncDgramSock, Clock};
@@ -78,6 +79,7 @@ fn serve_begun<'x, R: Wait, D: AsyncDgramSock, C: Clock, J: Recorder, W: SharedS
     clock: &'x mut C,
     journal: &'x mut J,
     state: &'x mut Running<W>,
+    spare: &'x mut Spare,
     count: u64,
 ) -> DgramEnd
     requires book { state.old.seat.book ≡ book.now }
@@ -103,6 +105,7 @@ fn serve_begun<'x, R: Wait, D: AsyncDgramSock, C: Clock, J: Recorder, W: SharedS
         journal,
         state,
         waits: Waits::new(),
+        spare,
     };
     dgram_loop.serve_all(count)
 }
@@ -151,8 +154,9 @@ pub fn serve_datagrams_with_sends<
         return (seat, DgramEnd::OutOfMemory, false);
     };
     let mut state = begun(alloc, heard, seat);
+    let mut spare = Spare::new(alloc);
     let end = serve_begun(
-        rt, alloc, book, service, sock, clock, journal, &mut state, count,
+        rt, alloc, book, service, sock, clock, journal, &mut state, &mut spare, count,
     );
     let (seat, send_failed) = left(state);
     (seat, end, send_failed)

@@ -1,6 +1,6 @@
 //! One own event.
 
-ghost use Rattle.std.specs.Prelude.{◌≡◌, ◌≤◌, IfOk, OnErr, None, slice_get};
+ghost use Rattle.std.specs.Prelude.{◌≡◌, ◌≤◌, ◌++◌, ◌∷◌, [], IfOk, OnErr, None, slice_get};
 ghost use Rattle.dns_events.specs.declared.event.Event.{Event};
 ghost use Rattle.dns_io.specs.Causes.{Observed};
 ghost use Rattle.dns_session.specs.Serving.{Serving, serving};
@@ -17,7 +17,7 @@ use crate::reading::{ROOM, read_event};
 use crate::turn_state::TurnState;
 use crate::writing::write_event;
 use dns_io::{Clock, Link};
-use dns_recorder::{Recorder, now_is};
+use dns_recorder::Recorder;
 use dns_service::{Event, EventKind, OutOfMemory, SharedService, Why};
 use dns_session::ClientCore;
 use std::alloc::Global;
@@ -152,6 +152,22 @@ fn read_wait<W: SharedService>(core: &ClientCore<W>, kept: &TurnState) -> u64 {
     }
 }
 
+/// A Turn of the latest moment, which is that of the event before it: each wait is followed by a reading.
+fn turn_event<C: Clock>(clock: &mut C, client: u64, request: u64) -> Event
+    ensures dated { Observed (C.tells clock.new) (C.tells clock.old)
+        (C.readings clock.new ≡ C.readings clock.old ++ (result.at, result.secs) ∷ []) }
+    ensures client { result.client ≡ client }
+    ensures kind { result.kind ≡ EventKind.Turn request }
+{
+    let (at, secs) = clock.latest();
+    Event {
+        at,
+        secs,
+        client,
+        kind: EventKind::Turn { request },
+    }
+}
+
 /// Polls the next request; if none is left, makes one read. The event says what was done.
 fn turn_or_read<R: Wait, L: Link, C: Clock, W: SharedService>(
     rt: &R,
@@ -170,7 +186,7 @@ fn turn_or_read<R: Wait, L: Link, C: Clock, W: SharedService>(
         (below_of kept.now.turn) core.now result link.old link.new clock.old clock.new }
 {
     match next_request(core, kept.turn) {
-        Some(request) => Ok(now_is(clock, client, EventKind::Turn { request })),
+        Some(request) => Ok(turn_event(clock, client, request)),
         None => read_event(rt, alloc, client, link, clock, buf, read_wait(core, kept)),
     }
 }

@@ -53,12 +53,13 @@ pub record KnowsPlaces (n : NamePlaces) (rs : List Record) : Type 0 where
 abbrev pub IsInZone : List (List ℕ) → Record → Type 0
 IsInZone apex r = IsTrue (ends_name r.owner apex)
 
--- records of typed data within an apex, their places, and the SOA record of negative answers
-pub record IsZone (apex : List (List ℕ)) (rs : List Record) (n : NamePlaces) (negative : Record) : Type 0 where
+-- the path of an apex, records of typed data within it, their places, and the SOA record of negative answers
+pub record IsZone (apex : List (List ℕ)) (path : List ℕ) (rs : List Record) (n : NamePlaces) (negative : Record) : Type 0 where
   pub lawful : AreLawful rs
   pub typed : AllByRecursion HasTypedData rs
   pub within : AllByRecursion (IsInZone apex) rs
   pub known : KnowsPlaces n rs
+  pub path_is : path ≡ name_path apex
   pub soa : map negative_soa (filter (is_of 6) rs) ≡ negative ∷ []
 
 -- the path of a name within an apex

@@ -23,7 +23,7 @@ use crate::path::path_of;
 use crate::sections::{add_places, begin_reply};
 use crate::zone::Zone;
 use dns_base::{AdditionalBuilder, Class, Message, Opcode, PushError, QuestionRef, Rcode, Rtype};
-use dns_route::{ReplyMessage, matches_are_suffixes};
+use dns_route::ReplyMessage;
 use dns_service::{ReplyError, ServiceError};
 use std::alloc::Global;
 
@@ -145,12 +145,13 @@ impl Zone {
         }
     }
 
-    /// Whether the zone is asked.
-    fn asks_zone(&self, question: &QuestionRef<'_>) -> bool
+    /// Whether the zone is asked, by the path of the name.
+    fn asks_zone(&self, question: &QuestionRef<'_>, path: &[u8]) -> bool
+        requires { path.now ≡ name_path question.now.qname }
         ensures { result ≡ asks_zone self.now question.now }
     {
-        matches_are_suffixes();
-        question.qclass() == Class::IN && question.qname().ends_with(&self.apex.for_ref())
+        let within = path.starts_with(self.path.as_slice());
+        question.qclass() == Class::IN && within
     }
 
     /// The reply to a question for a name at or below the apex, as it is built.
@@ -164,11 +165,26 @@ impl Zone {
         ensures { Builds (unlimited (zone_message query.now (zone_reply self.now question.now))) result }
     {
         let path = path_of(alloc, question.qname().labels(), LONGEST)?;
+        self.reply_at(alloc, query, question, &path)
+    }
+
+    /// The reply to a question for the name of a path at or below the apex.
+    fn reply_at(
+        &self,
+        alloc: Global,
+        query: &Message,
+        question: &QuestionRef<'_>,
+        path: &Vec<u8>,
+    ) -> Result<AdditionalBuilder, PushError>
+        requires within { IsTrue (ends_name question.now.qname self.now.apex) }
+        requires path { path.now.items ≡ name_path question.now.qname }
+        ensures { Builds (unlimited (zone_message query.now (zone_reply self.now question.now))) result }
+    {
         let rtype = question.qtype().to_int();
         match self.standing(path.as_slice()) {
             Standing::Cut(servers) => self.referred(alloc, query, servers),
-            Standing::Owner(kinds) => self.reply_within(alloc, query, rtype, &path, Some(kinds)),
-            Standing::Nothing => self.reply_within(alloc, query, rtype, &path, None),
+            Standing::Owner(kinds) => self.reply_within(alloc, query, rtype, path, Some(kinds)),
+            Standing::Nothing => self.reply_within(alloc, query, rtype, path, None),
         }
     }
 
@@ -185,10 +201,11 @@ impl Zone {
         if query.header().opcode != Opcode::QUERY {
             return Err(ReplyError::Service(ServiceError::NotImplemented));
         }
-        if !self.asks_zone(question) {
+        let path = path_of(alloc, question.qname().labels(), LONGEST)?;
+        if !self.asks_zone(question, path.as_slice()) {
             return Err(ReplyError::Service(ServiceError::Refused));
         }
-        let built = self.reply(alloc, query, question)?;
+        let built = self.reply_at(alloc, query, question, &path)?;
         let _octets = built.as_slice();
         let _records = self.records();
         zone_replies_are_built();

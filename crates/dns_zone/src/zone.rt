@@ -1,7 +1,10 @@
 //! A zone: what a name server answers of a list of records.
 
-ghost use Rattle.std.specs.Prelude.{◌≡◌, IfOk};
-ghost use Rattle.dns_zone.specs.Owned.{AreLawful};
+ghost use Rattle.std.specs.Prelude.{◌≡◌, ◌∷◌, [], length, map, IfOk};
+ghost use Rattle.std.specs.List.{filter};
+ghost use Rattle.dns_zone.specs.Owned.{AreLawful, is_of};
+ghost use Rattle.dns_zone.specs.Paths.{name_path};
+ghost use Rattle.dns_zone.specs.ZoneReply.{negative_soa};
 ghost use Rattle.dns_zone.specs.ZoneErrors.{Makes, zone_error};
 ghost use Rattle.dns_zone.specs.ZoneTurns.{TurnsTo, zone_turn};
 
@@ -9,6 +12,7 @@ use crate::check::checked;
 use crate::error::ZoneError;
 use crate::listing::negative_of;
 use crate::name_places::NamePlaces;
+use crate::path::path_of_name;
 use dns_base::Record;
 use dns_name::Name;
 use dns_route::{SingleService, Turned};
@@ -22,6 +26,8 @@ use std::marker::Model;
 #[derive(Drop)]
 pub struct Zone {
     pub(crate) apex: Name,
+    /// The path of the apex.
+    pub(crate) path: Vec<u8>,
     pub(crate) records: Vec<Record>,
     pub(crate) names: NamePlaces,
     pub(crate) negative: Record,
@@ -35,7 +41,7 @@ impl Model for Zone {
 
     ghost view = { λ z. record { apex = z.apex; records = z.records.items } };
 
-    ghost invariant = { λ z. IsZone z.apex z.records.items z.names z.negative };
+    ghost invariant = { λ z. IsZone z.apex z.path.items z.records.items z.names z.negative };
 }
 
 impl Zone {
@@ -46,9 +52,10 @@ impl Zone {
         ensures { Makes (zone_error apex records.items) (record { apex = apex; records = records.items }) result }
     {
         match checked(alloc, &apex, records.as_slice()) {
-            Ok(names) => match negative_of(alloc, records.as_slice()) {
-                Ok(negative) => Ok(Zone {
+            Ok(names) => match kept_beside(alloc, &apex, records.as_slice()) {
+                Ok((path, negative)) => Ok(Zone {
                     apex,
+                    path,
                     records,
                     names,
                     negative,
@@ -58,6 +65,21 @@ impl Zone {
             Err(error) => Err(error),
         }
     }
+}
+
+/// The path of the apex, and the one SOA record as it is in a negative answer.
+fn kept_beside(
+    alloc: Global,
+    apex: &Name,
+    records: &[Record],
+) -> Result<(Vec<u8>, Record), OutOfMemory>
+    requires { length (filter (is_of 6) records.now) ≡ 1 }
+    ensures path { IfOk result (λ p. p.0.items ≡ name_path apex.now) }
+    ensures negative { IfOk result (λ p. map negative_soa (filter (is_of 6) records.now) ≡ p.1 ∷ []) }
+{
+    let path = path_of_name(alloc, apex)?;
+    let negative = negative_of(alloc, records)?;
+    Ok((path, negative))
 }
 
 impl SingleService for Zone {

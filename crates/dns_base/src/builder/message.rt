@@ -20,7 +20,19 @@ impl MessageBuilder {
     {
         let draft = Draft::new(alloc)?;
         Ok(Builder {
-            draft: Box::new(alloc, draft)?,
+            draft,
+            stage: PhantomData,
+        })
+    }
+
+    /// The empty message with a zero header, which may take 65,535 octets, in memory that is used again if it is large enough.
+    #[inline(always)]
+    pub fn in_memory(alloc: Global, memory: Vec<u8>) -> Result<MessageBuilder, OutOfMemory>
+        ensures { IfOk result (λ b. b ≡ record { message = empty; limit = 65535 }) }
+    {
+        let draft = Draft::in_memory(alloc, memory)?;
+        Ok(Builder {
+            draft,
             stage: PhantomData,
         })
     }

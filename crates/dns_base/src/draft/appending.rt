@@ -32,7 +32,7 @@ impl Draft {
         requires { IsLast section self.old.message }
         ensures { Pushes self.old self.new (with_records section self.old added.now) result }
     {
-        if self.octets.len() - 2 + added.as_slice().len() > self.limit {
+        if self.octets.len() - 2 + added.as_slice().len() > self.limit as usize {
             return Err(PushError::ShortBuf);
         }
         self.octets.extend_from_slice(added.as_slice())?;

@@ -26,7 +26,7 @@ impl Draft {
         ensures records { NoRecords self.new.message }
     {
         match plain_questions(message.as_slice()) {
-            Some(end) if self.octets.len() == 14 && end <= self.limit => {
+            Some(end) if self.octets.len() == 14 && end <= self.limit as usize => {
                 self.copy_standing(message.as_slice(), end)
             }
             _ => self.copy_each(alloc, message),

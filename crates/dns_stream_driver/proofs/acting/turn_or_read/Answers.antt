@@ -14,18 +14,18 @@ returns-in-Some g c =
       chosen = record {
         observed = λ t. (
           t,
-          chosen_turn a c.args.client (below_of c.args.kept.now.turn) c.in-Some.request c.args.core.now c.now_is.result (g.L.Link.traffic c.args.link.now)
-              (λ answers s h. c.requires.queue answers s h) (λ answers s h. c.in-Some.ensures answers s h) c.now_is.ensures.kind c.now_is.ensures.client,
+          chosen_turn a c.args.client (below_of c.args.kept.now.turn) c.in-Some.request c.args.core.now c.turn_event.result (g.L.Link.traffic c.args.link.now)
+              (λ answers s h. c.requires.queue answers s h) (λ answers s h. c.in-Some.ensures answers s h) c.turn_event.ensures.kind c.turn_event.ensures.client,
         );
       };
       clock = record {
         observed = λ t.
-            let r = c.now_is.ensures.dated.observed t.1 in
-            ((t.0, r.0), timed_turn c.now_is.result c.in-Some.request (g.L.Link.traffic c.args.link.now).full_writes (g.C.Clock.readings c.args.clock.now) (g.C.Clock.readings c.now_is.new.clock) c.now_is.ensures.kind r.1);
+            let r = c.turn_event.ensures.dated.observed t.1 in
+            ((t.0, r.0), timed_turn c.turn_event.result c.in-Some.request (g.L.Link.traffic c.args.link.now).full_writes (g.C.Clock.readings c.args.clock.now) (g.C.Clock.readings c.turn_event.new.clock) c.turn_event.ensures.kind r.1);
       };
-      blame = for_turn a (below_of c.args.kept.now.turn) c.in-Some.request c.args.core.now c.now_is.result (g.L.Link.faults c.args.link.now)
-          (λ answers s h. c.requires.queue answers s h) (λ answers s h. c.in-Some.ensures answers s h) c.now_is.ensures.kind;
-      again = record { observed = λ t. (t, first_turn a c.args.core.now c.now_is.result.kind c.in-Some.request (g.L.Link.traffic c.args.link.now) c.now_is.ensures.kind) };
+      blame = for_turn a (below_of c.args.kept.now.turn) c.in-Some.request c.args.core.now c.turn_event.result (g.L.Link.faults c.args.link.now)
+          (λ answers s h. c.requires.queue answers s h) (λ answers s h. c.in-Some.ensures answers s h) c.turn_event.ensures.kind;
+      again = record { observed = λ t. (t, first_turn a c.args.core.now c.turn_event.result.kind c.in-Some.request (g.L.Link.traffic c.args.link.now) c.turn_event.ensures.kind) };
       no_memory = tt;
       later = omega arith;
     }

@@ -1,3 +1,5 @@
+use Rattle.dns_base.specs.Built.{Built}
+use Rattle.std.proofs.Common.{ap, arith}
 use Rattle.dns_base.specs.Replies.{with_questions}
 use Rattle.dns_base.specs.Sections.{questions_of}
 use Rattle.dns_base.proofs.Copied.{standing_done}
@@ -24,3 +26,6 @@ returns-clause-records c =
     let i = c.self.inside in
     (standing_done i.octets.items c.extend_from_slice.new.self.items c.put_count.new.octets.items c.args.message.now i.limit c.number_at.result c.args.end c.args.self.now c.self.invariant.0 c.self.view_is c.requires.records c.requires.header_alone
     c.requires.stand c.requires.room c.number_at.ensures c.in_ok-extend_from_slice.ensures.items c.put_count.ensures.message c.put_count.ensures.len).0.records
+
+pub all-self-inside-requires : goal.all-self-inside-requires
+all-self-inside-requires c = omega (arith, c.requires.room, ap (λ (b : Built). b.limit) c.self.view_is, c.self.invariant.0.limited)

@@ -1,4 +1,4 @@
-use Rattle.std.proofs.Common.{◌∙◌, refl, arith, ap}
+use Rattle.std.proofs.Common.{◌∙◌, refl, arith, ap, length, length-append}
 use Rattle.std.proofs.lemmas.Result.{err_from_is_err_and}
 use Rattle.dns_base.specs.Built.{with_question}
 use Rattle.dns_base.proofs.Pushed.{viewed, room_on, question_grows, question_done, no_memory}
@@ -48,3 +48,7 @@ returns g c =
           c.in_ok-compose_question.ensures.ok c.count_more.ensures.message c.count_more.ensures.len (omega (arith, c.len.ensures, c.compose_len.ensures.value))).1,
       omega (arith, k.0, k.1, c.len.ensures, c.compose_len.ensures.value),
     )
+
+pub all-self-inside-requires : goal.all-self-inside-requires
+all-self-inside-requires g c =
+    omega (arith, c.len-2.ensures, c.count_more.ensures.len, simp length-append at (ap length c.in_ok-compose_question.ensures.ok), simp length-append at c.compose_len.ensures.value, c.len.ensures, c.if-len-compose_len.false, c.self.invariant.0.limited)

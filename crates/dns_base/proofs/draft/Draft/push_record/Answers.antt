@@ -1,4 +1,4 @@
-use Rattle.std.proofs.Common.{◌≡◌, ◌+◌, ℕ, drop, ◌∙◌, refl, arith, ap, subst}
+use Rattle.std.proofs.Common.{◌≡◌, ◌+◌, ℕ, drop, ◌∙◌, refl, arith, ap, subst, length, length-append}
 use Rattle.std.proofs.lemmas.Result.{err_from_is_err_and}
 use Rattle.dns_base.specs.Built.{with_record}
 use Rattle.dns_base.specs.Draft.{counted}
@@ -56,3 +56,7 @@ returns g c =
           c.in_ok-compose_record.ensures.ok (subst (λ (x : ℕ). drop 2 c.count_more.new.octets.items ≡ counted x (field x (drop 2 c.compose_record.new.target.items) + 1) (drop 2 c.compose_record.new.target.items)) c.count_place.ensures.value c.count_more.ensures.message) c.count_more.ensures.len (omega (arith, c.len.ensures, c.record_len.ensures.value))).1,
       omega (arith, h.0, h.1, c.len.ensures, c.record_len.ensures.value),
     )
+
+pub behind-self-inside-requires : goal.behind-self-inside-requires
+behind-self-inside-requires g c =
+    omega (arith, c.len-end.ensures, c.count_more.ensures.len, simp length-append at (ap length c.in_ok-compose_record.ensures.ok), simp length-append at c.record_len.ensures.value, c.len.ensures, c.if-len-record_len.false, c.self.invariant.0.limited)

@@ -1,4 +1,4 @@
-use Rattle.std.proofs.Common.{◌≡◌, ◌+◌, ◌-◌, ◌≤◌, ◌<◌, ℕ, length, drop, ◌∙◌, ◌++◌, refl, arith, ap, sym, subst}
+use Rattle.std.proofs.Common.{◌≡◌, ◌+◌, ◌-◌, ◌≤◌, ◌<◌, ℕ, length, drop, ◌∙◌, ◌++◌, refl, arith, ap, sym, subst, length-append}
 use Rattle.std.proofs.lemmas.Result.{err_from_is_err_and}
 use Rattle.dns_base.specs.Builds.{with_records}
 use Rattle.dns_base.specs.Draft.{count_place, counted}
@@ -64,3 +64,7 @@ returns c =
     let k = records_done i.octets.items p o i.limit b s rs c.self.invariant.0 c.self.view_is c.as_slice-2.ensures.named c.requires hp
     (subst (λ (x : ℕ × ℕ). drop 2 o ≡ counted x.0 (field x.0 (drop 2 p) + x.1) (drop 2 p)) (ap (λ x. (x, c.len-2.result)) c.count_place.ensures.value ∙ ap (λ x. (count_place s, x)) c.len-2.ensures) c.count_by.ensures.message) c.count_by.ensures.len f in
     (k.1, omega (arith, h.0, h.1, c.len.ensures, ap length c.as_slice.ensures.value, c.if-len-as_slice.false))
+
+pub behind-self-inside-requires : goal.behind-self-inside-requires
+behind-self-inside-requires c =
+    omega (arith, c.len-end.ensures, c.count_by.ensures.len, simp length-append at (ap length c.in_ok-extend_from_slice.ensures.items), ap length c.as_slice-2.ensures.value, ap length c.as_slice.ensures.value, c.len.ensures, c.if-len-as_slice.false, c.self.invariant.0.limited)

@@ -9,6 +9,12 @@ use Rattle.dns_route.specs.ReplyMessage.{reply_message}
 use Rattle.dns_zone.specs.Owned.{HasTypedData}
 use Rattle.dns_zone.proofs.zone.Zone.answer_to.Goals as goal
 
+pub asks_zone-requires : goal.asks_zone-requires
+asks_zone-requires c = cc (c.as_slice.ensures.value, c.in_ok-path.ensures, c.labels.ensures.value, c.qname.ensures)
+
+pub reply_at-requires-clause-path : goal.reply_at-requires-clause-path
+reply_at-requires-clause-path c = cc (c.in_ok-path.ensures, c.labels.ensures.value, c.qname.ensures)
+
 pub from_typed-requires : goal.from_typed-requires
 from_typed-requires c =
     let typed = subst (λ (rs : List Record). AllByRecursion HasTypedData rs) c.records-records.ensures.value c.records-records.ensures.typed in

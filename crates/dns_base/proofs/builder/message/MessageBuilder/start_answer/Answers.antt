@@ -7,11 +7,11 @@ use Rattle.dns_base.proofs.builder.message.MessageBuilder.start_answer.Goals as 
 
 pub invariant_of-result : goal.invariant_of-result
 invariant_of-result c =
-    let s : c.deref_mut-2.result.now ≡ with_header c.args.self (answer_header c.args.self.message.header (header_of c.args.message.now) c.args.rcode) = cc in
-    (begun c.args.self c.args.message.now c.args.rcode c.deref_mut-2.result.now c.copy_questions.new.self s c.in_ok-copy_questions.ensures.value (subst (λ (b : Built). NoRecords b.message) c.self.view_is c.self.invariant.records)).0
+    let s : c.set_header.new.self ≡ with_header c.args.self (answer_header c.args.self.message.header (header_of c.args.message.now) c.args.rcode) = cc in
+    (begun c.args.self c.args.message.now c.args.rcode c.set_header.new.self c.copy_questions.new.self s c.in_ok-copy_questions.ensures.value (subst (λ (b : Built). NoRecords b.message) c.self.view_is c.self.invariant.records)).0
 
 pub returns : goal.returns
 returns c =
-    let s : c.deref_mut-2.result.now ≡ with_header c.args.self (answer_header c.args.self.message.header (header_of c.args.message.now) c.args.rcode) = cc in
-    let b = begun c.args.self c.args.message.now c.args.rcode c.deref_mut-2.result.now c.copy_questions.new.self s c.in_ok-copy_questions.ensures.value (subst (λ (b : Built). NoRecords b.message) c.self.view_is c.self.invariant.records) in
+    let s : c.set_header.new.self ≡ with_header c.args.self (answer_header c.args.self.message.header (header_of c.args.message.now) c.args.rcode) = cc in
+    let b = begun c.args.self c.args.message.now c.args.rcode c.set_header.new.self c.copy_questions.new.self s c.in_ok-copy_questions.ensures.value (subst (λ (b : Built). NoRecords b.message) c.self.view_is c.self.invariant.records) in
     (b.1, b.2)

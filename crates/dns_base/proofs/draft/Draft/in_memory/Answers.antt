@@ -2,7 +2,7 @@ use Rattle.std.proofs.Common.{refl, arith, ap, length}
 use Rattle.dns_base.specs.Built.{empty}
 use Rattle.dns_base.proofs.Pushed.{built, new_drafted}
 use Rattle.dns_base.proofs.Placed.{starts_all}
-use Rattle.dns_base.proofs.draft.Draft.new.Goals as goal
+use Rattle.dns_base.proofs.draft.Draft.in_memory.Goals as goal
 
 pub invariant_of-result : goal.invariant_of-result
 invariant_of-result c =
