@@ -1,5 +1,5 @@
 -- A witness of a socket stays tied to it.
-use Rattle.std.proofs.Common.{◌≡◌, ℕ, ◌+◌, ◌≤◌, List, [], ◌∷◌, ◌++◌, refl, sym, ◌∙◌, ap, append-nil, append_assoc, arith, add-zero, length, take, min, le_of_eq, length-take-le, take_all}
+use Rattle.std.proofs.Common.{◌≡◌, ℕ, ◌≤◌, List, [], ◌∷◌, ◌++◌, refl, sym, ◌∙◌, ap, append-nil, append_assoc, arith, add-zero, length, take, min, le_of_eq, length-take-le, take_all}
 use Rattle.std.proofs.Math.Logic.{∥∥₁_map}
 use Rattle.std.proofs.Math.Nat.{min-eq_left}
 use Rattle.dns_name.specs.declared.address.SocketAddr.{SocketAddr}

@@ -1,5 +1,5 @@
 -- A witness of a link stays tied to it.
-use Rattle.std.proofs.Common.{◌≡◌, ℕ, ◌+◌, List, ◌++◌, take, refl, sym, ◌∙◌, ap, append-nil, append_assoc, arith, add-zero}
+use Rattle.std.proofs.Common.{◌≡◌, ℕ, List, ◌++◌, take, sym, ◌∙◌, ap, append-nil, append_assoc, arith, add-zero}
 use Rattle.std.proofs.Math.Logic.{∥∥₁_map}
 use Rattle.dns_io.specs.Causes.{Observed}
 use Rattle.dns_io.specs.Traffic.{Traffic, LinkReadMoves, LinkWriteMoves}

@@ -1,5 +1,5 @@
 -- What the calls of a witness said.
-use Rattle.std.specs.Prelude.{◌≡◌, ℕ, ◌+◌, List, [], ◌∷◌, ◌++◌, take}
+use Rattle.std.specs.Prelude.{ℕ, ◌+◌, List, [], ◌∷◌, ◌++◌, take}
 use Rattle.dns_io.specs.Traffic.{Traffic}
 use Rattle.dns_io.specs.SockTraffic.{SockTraffic}
 use Rattle.dns_io.specs.AcceptTraffic.{AcceptTraffic}

@@ -11,7 +11,7 @@ use dns_name::{OutOfMemory, SocketAddr};
 /// A spawner, and the addresses of the works that it was given.
 #[derive(Drop)]
 pub struct WitnessSpawner<P> {
-    spawner: P,
+    pub(crate) spawner: P,
     seen: SeenStarts,
 }
 
