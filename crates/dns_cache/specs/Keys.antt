@@ -52,9 +52,9 @@ same_key_Decides a b =
       ),
     )
 
--- a key is hashed by the octets of its name, and its type
+-- a key is hashed by one write of its name's octets, and its type
 abbrev pub key_writes : AskedKey → List (List ℕ)
-key_writes k = fed.slice fed.u8 (spell k.name) ++ fed.u16 k.qtype
+key_writes k = spell k.name ∷ fed.u16 k.qtype
 
 pub same_key_writes : (a b : AskedKey) → same_key a b ≡ true → key_writes a ≡ key_writes b
 same_key_writes a b h = ap key_writes ((same_key_Decides a b).0 h)

@@ -1,34 +1,57 @@
 //! The key under which a reply is kept.
 
-ghost use Rattle.std.specs.Prelude.{◌≡◌, IfOk, Some};
+ghost use Rattle.std.specs.Prelude.{◌≡◌, ◌==◌, ◌++◌, ◌∷◌, ◌<◌, length, map, IfOk, OnOk, Some};
+ghost use Rattle.std.specs.Char.{to_ascii_lowercase};
 ghost use Rattle.std.specs.Cmp.{partial_equiv_from_equiv};
+ghost use Rattle.std.specs.Cmp.Lexicographic.{pointwise};
+ghost use Rattle.dns_name.specs.Labels.{IsName, folded, spell};
 ghost use Rattle.dns_base.specs.Options.{IsOptionList};
 ghost use Rattle.dns_cache.specs.Keys.{asks_once, key_of, key_writes, lists_subnet, names_subnet, question_key, same_key, same_key_equiv, wants_dnssec};
 
-use dns_base::{Class, Message, Name, Opcode, OptionCode, QuestionRef, Rtype, first_option};
+use dns_base::{Class, Labels, Message, Opcode, OptionCode, QuestionRef, Rtype, first_option};
 use dns_opt::{MessageOpt, OptRecordRef};
 use dns_service::{OutOfMemory, Request};
+use smallvec::SmallVec;
 use std::alloc::Global;
 use std::hash::{Hash, Hasher};
 use std::marker::Model;
 
-/// A question's name, type and class, and the DO bit of its request. Its name is compared and hashed up to ASCII case, and
-/// contracts see it in lower case.
+/// The octets of a name in lower case. Up to 32 of them lie in the key itself, where a look-up compares them.
+type KeyOctets = SmallVec<u8, 32>;
+
+/// A question's name, type and class, and the DO bit of its request. The name is kept in lower case, as octets, which are
+/// hashed by one write.
 #[derive(Drop)]
 pub(crate) struct CacheKey {
-    name: Name,
+    octets: KeyOctets,
     qtype: Rtype,
     qclass: Class,
     dnssec_ok: bool,
 }
 
 impl Model for CacheKey {
-    ghost use Rattle.dns_name.specs.Labels.{folded};
+    ghost use Rattle.dns_name.specs.Names.{IsSpelt, labels_of, uncompressed_at};
     ghost use Rattle.dns_cache.specs.Keys.{AskedKey};
 
     ghost Value = { AskedKey };
 
-    ghost view = { λ k. record { name = folded k.name; qtype = k.qtype; qclass = k.qclass; dnssec_ok = k.dnssec_ok } };
+    ghost view = { λ k. record {
+      name = labels_of (uncompressed_at k.octets.items 0);
+      qtype = k.qtype;
+      qclass = k.qclass;
+      dnssec_ok = k.dnssec_ok;
+    } };
+
+    ghost invariant = { λ k. IsSpelt k.octets.items };
+}
+
+impl CacheKey {
+    /// Whether the names are the same.
+    fn name_eq(&self, other: &CacheKey) -> bool
+        ensures { result ≡ pointwise (pointwise ◌==◌) self.now.name other.now.name }
+    {
+        self.octets == other.octets
+    }
 }
 
 impl PartialEq for CacheKey {
@@ -37,7 +60,7 @@ impl PartialEq for CacheKey {
     ghost laws = { partial_equiv_from_equiv same_key_equiv };
 
     fn eq(&self, other: &CacheKey) -> bool {
-        self.name == other.name
+        self.name_eq(other)
             && self.qtype == other.qtype
             && self.qclass == other.qclass
             && self.dnssec_ok == other.dnssec_ok
@@ -56,7 +79,7 @@ impl Hash for CacheKey {
     ghost respects_eq = { same_key_writes };
 
     fn hash<H: Hasher>(&self, state: &mut H) {
-        self.name.hash(state);
+        state.write(self.octets.as_slice());
         self.qtype.to_int().hash(state);
     }
 }
@@ -85,13 +108,54 @@ fn question_key(
 ) -> Result<Option<CacheKey>, OutOfMemory>
     ensures { IfOk result (λ k. k ≡ Some (question_key dnssec_ok question.now)) }
 {
-    let name = question.qname().to_name(alloc)?;
+    let octets = folded_octets(alloc, question.qname().labels())?;
     Ok(Some(CacheKey {
-        name,
+        octets,
         qtype: question.qtype(),
         qclass: question.qclass(),
         dnssec_ok,
     }))
+}
+
+/// The octets of labels in lower case.
+fn folded_octets(alloc: Global, labels: Labels<'_>) -> Result<KeyOctets, OutOfMemory>
+    requires { IsName labels }
+    ensures { IfOk result (λ v. v.items ≡ spell (folded labels.entry)) }
+{
+    let mut octets = spelt_octets(alloc, labels)?;
+    lower(&mut octets);
+    Ok(octets)
+}
+
+/// Puts ASCII letters into lower case.
+fn lower(octets: &mut KeyOctets)
+    ensures { octets.new.items ≡ map to_ascii_lowercase octets.old.items }
+{
+    octets.as_mut_slice().make_ascii_lowercase();
+}
+
+/// The octets of labels.
+fn spelt_octets(alloc: Global, labels: Labels<'_>) -> Result<KeyOctets, OutOfMemory>
+    requires { IsName labels }
+    ensures { IfOk result (λ v. v.items ≡ spell labels.entry) }
+{
+    let mut left = labels;
+    let mut octets = KeyOctets::new(alloc);
+    'labels: while let Some(label) = left.next() {
+        push_label(label, &mut octets)?;
+    }
+    octets.push(0)?;
+    Ok(octets)
+}
+
+/// Appends a label after its length.
+fn push_label(label: &[u8], octets: &mut KeyOctets) -> Result<(), OutOfMemory>
+    requires { length label.now < 256 }
+    ensures { OnOk result (octets.new.items ≡ octets.old.items ++ (length label.now ∷ label.now)) }
+{
+    octets.push(label.len() as u8)?;
+    octets.extend_from_slice(label)?;
+    Ok(())
 }
 
 /// Whether a request's opcode is QUERY, and it states one question.
