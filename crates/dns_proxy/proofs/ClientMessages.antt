@@ -36,11 +36,13 @@ use Rattle.dns_proxy.specs.declared.query_event.ClientTransport.{ClientTransport
 use Rattle.dns_proxy.specs.declared.query_event.ClientTransport.TheVariants.{Datagram, Connection}
 use Rattle.dns_proxy.specs.declared.beginning.BegunQuery.{BegunQuery}
 use Rattle.dns_proxy.specs.declared.beginning.BegunQuery.TheVariants as Begun
+use Rattle.dns_proxy.specs.declared.beginning.TakenMessage.{TakenMessage}
+use Rattle.dns_proxy.specs.declared.beginning.TakenMessage.TheVariants as Taken_as
 use Rattle.dns_proxy.specs.declared.query.Query.{Query}
 use Rattle.dns_proxy.specs.Coming.{closed_by, message_of, octets_read, outputs_by, outputs_to, refused_by, request_by, request_of}
 use Rattle.dns_proxy.specs.Fronts.{Fronting}
 use Rattle.dns_proxy.specs.Proxied.{asked_for, event_of, running, sent_by, sent_over}
-use Rattle.dns_proxy.specs.Queries.{Begins, IsAsked, Stands, front_taken, replied}
+use Rattle.dns_proxy.specs.Queries.{Begins, IsAsked, Stands, Takes, front_taken, replied}
 
 or_first : (a b : Bool) → (a || b) ≡ false → a ≡ false
 or_first true b h = h
@@ -235,7 +237,7 @@ module _ {R : Type 0} (rewriting : R → Msg → Msg) (f : Fronting) (dgram : Dg
     (kept : new ≡ record r { transport = hinted (f.hint r) r.transport; reserved = reserved }) (left : n ≡ limit_over new.transport (limit (hint_of new.transport))) where
   -- a request that is passed on begins a query
   pub asks_begins : (client : ℕ) (rule : R) (m : List ℕ) (u : UpstreamConfig) (id : ℕ) (b : BegunQuery R) → client ≡ c.client → f.asks r ≡ Some m → ((i : Item) (k : ℕ) → f.over i r k ≡ once (rewritten (rewriting rule) i) k)
-      → IsAsked client new n rule m u id b → Begins rewriting f dgram c u id b
+      → IsAsked (record { client = client; request = new; limit = n; rule = rule; message = m }) u id b → Begins rewriting f dgram c u id b
   asks_begins client rule m u id (Begun.Sent o) is passes over h = absurd h
   asks_begins client rule m u id Begun.Short is passes over h = absurd h
   asks_begins client rule m u id (Begun.Asks q octets) is passes over h =
@@ -246,7 +248,7 @@ module _ {R : Type 0} (rewriting : R → Msg → Msg) (f : Fronting) (dgram : Dg
       (m, p.0, h.5, p.1)
 
   -- and one that is answered is sent that
-  pub sent_begins : (own : Item) (u : UpstreamConfig) (id : ℕ) (b : BegunQuery R) → f.asks r ≡ None → ((i : Item) (k : ℕ) → f.over i r k ≡ once own k) → b ≡ Begun.Sent (replied n new.octets own) → Begins rewriting f dgram c u id b
-  sent_begins own u id b passes over is =
-      subst (λ (x : BegunQuery R). Begins rewriting f dgram c u id x) (sym is)
-      (answered f dgram c own n (replied n new.octets own) r e asks passes over (limit_left n r new (f.hint r) reserved left kept) (ap (λ (x : Req (Unit {0})). replied n x.octets own) kept))
+  pub sent_begins : (own : Item) (t : TakenMessage R) → f.asks r ≡ None → ((i : Item) (k : ℕ) → f.over i r k ≡ once own k) → t ≡ Taken_as.Sent (replied n new.octets own) → Takes rewriting f dgram c t
+  sent_begins own t passes over is =
+      subst (λ (x : TakenMessage R). Takes rewriting f dgram c x) (sym is)
+      (λ u id. answered f dgram c own n (replied n new.octets own) r e asks passes over (limit_left n r new (f.hint r) reserved left kept) (ap (λ (x : Req (Unit {0})). replied n x.octets own) kept))

@@ -23,7 +23,7 @@ use Rattle.dns_proxy.specs.declared.proxy.Started.TheVariants.{Sent, Short}
 use Rattle.dns_proxy.specs.declared.proxy.WhenFull.{WhenFull}
 use Rattle.dns_proxy.specs.Coming.{message_of, outputs_to}
 use Rattle.dns_proxy.specs.Fronts.{Fronting}
-use Rattle.dns_proxy.specs.Proxied.{Asked, due_of, outcome_after, sent_for, with_event}
+use Rattle.dns_proxy.specs.Proxied.{Asked, asked_for, due_of, outcome_after, sent_for, with_event}
 use Rattle.dns_proxy.specs.Queries.{Begins, FrontAfter, Goes, GoesBy, Stands, front_taken, replied}
 use Rattle.dns_proxy.specs.Places.{Enters, GoesAt, StandsAt, Starts, StartsBy, due_there, ends, front_at, kept_at}
 
@@ -102,6 +102,15 @@ module _ {R : Type 0} (rewriting : R → Msg → Msg) (given : List ℕ → Resu
       → Starts rewriting given after_give after_take bound when f dgram c u id front before Short new before
   starts_short new says taken =
       subst (λ (m : Option (List ℕ)). StartsBy rewriting given after_give m bound when f dgram c u id (front_taken after_take dgram c front) before Short new before) (sym says.0) ((λ k. refl), says.1, taken)
+
+  -- what is asked enters
+  pub asks_start : (q : Query R) (octets : List ℕ) (new : F) (s : Started) (after : List (Option (Query R))) → Begins rewriting f dgram c u id (Begun.Asks q octets)
+      → ((a : Asked) → Stands rewriting q a → Enters rewriting given after_give bound when a octets front before s new after)
+      → StartsBy rewriting given after_give (asked_for f dgram c) bound when f dgram c u id front before s new after
+  asks_start q octets new s after says enters =
+      let a : Asked = record { front = f; dgram = dgram; came = c; upstream = u; message = says.0; id = id; events = [] } in
+      subst (λ (m : Option (List ℕ)). StartsBy rewriting given after_give m bound when f dgram c u id front before s new after) (sym says.1)
+      (subst (λ (o : List ℕ). Enters rewriting given after_give bound when a o front before s new after) says.2 (enters a says.3))
 
   pub starts_asks : (q : Query R) (octets : List ℕ) (mid new : F) (s : Started) (after : List (Option (Query R))) → Begins rewriting f dgram c u id (Begun.Asks q octets) → mid ≡ front_taken after_take dgram c front
       → ((a : Asked) → Stands rewriting q a → Enters rewriting given after_give bound when a octets mid before s new after)

@@ -23,6 +23,9 @@ use Rattle.dns_proxy.specs.declared.query_event.QueryOutcome.TheVariants.{Nothin
 use Rattle.dns_proxy.specs.declared.query.Query.{Query}
 use Rattle.dns_proxy.specs.declared.beginning.BegunQuery.{BegunQuery}
 use Rattle.dns_proxy.specs.declared.beginning.BegunQuery.TheVariants.{Sent, Short, Asks}
+use Rattle.dns_proxy.specs.declared.beginning.PassedQuery.{PassedQuery}
+use Rattle.dns_proxy.specs.declared.beginning.TakenMessage.{TakenMessage}
+use Rattle.dns_proxy.specs.declared.beginning.TakenMessage.TheVariants as Taken_as
 use Rattle.dns_proxy.specs.Coming.{closed_by, message_of, outputs_to, request_of}
 use Rattle.dns_proxy.specs.Fronts.{Fronting}
 use Rattle.dns_proxy.specs.Proxied.{Asked, answer_of, asked_for, came_to, outcome_after, sent, sent_over, subject, with_event}
@@ -31,14 +34,14 @@ use Rattle.dns_proxy.specs.Proxied.{Asked, answer_of, asked_for, came_to, outcom
 abbrev pub replied : Option ℕ → List ℕ → Item → Option (List ℕ)
 replied n o i = option_map wire (reply_to n o (Ready (Some i)))
 
--- an upstream is asked a message for a request of a client
-abbrev pub IsAsked : {R : Type 0} → ℕ → Req (Unit {0}) → Option ℕ → R → List ℕ → UpstreamConfig → ℕ → BegunQuery R → Type 0
-IsAsked client request limit rule message u id (Sent o) = ⊥
-IsAsked client request limit rule message u id Short = ⊥
-IsAsked client request limit rule message u id (Asks q octets) =
-    (q.client ≡ client) × (q.request ≡ request) × (q.limit ≡ limit) × (q.rule ≡ rule)
-    × IsAt (record { upstream = u; message = message; id = id; at = request.received_at }) (InDatagrams []) q.lookup
-    × (octets ≡ with_id id message)
+-- an upstream is asked for a query of a client that was passed on
+abbrev pub IsAsked : {R : Type 0} → PassedQuery R → UpstreamConfig → ℕ → BegunQuery R → Type 0
+IsAsked p u id (Sent o) = ⊥
+IsAsked p u id Short = ⊥
+IsAsked p u id (Asks q octets) =
+    (q.client ≡ p.client) × (q.request ≡ p.request) × (q.limit ≡ p.limit) × (q.rule ≡ p.rule)
+    × IsAt (record { upstream = u; message = p.message; id = id; at = p.request.received_at }) (InDatagrams []) q.lookup
+    × (octets ≡ with_id id p.message)
 
 -- what stood before the upstreams is, after an event of what is asked, what it is once the answer was given, if there is one
 abbrev pub front_by : {F : Type 0} → (F → List ℕ → ℕ → Result (List ℕ) SendError → F) → ClientMessage → F → LookupOutcome → F
@@ -68,6 +71,12 @@ module _ {R : Type 0} (rewriting : R → Msg → Msg) where
   Begins f dgram c u id Short = (asked_for f dgram c ≡ None) × ((i : Item) → closed_by c.transport c.client ≡ sent_over f dgram c i)
   Begins f dgram c u id (Asks q octets) = (m : List ℕ) × (asked_for f dgram c ≡ Some m) × (octets ≡ with_id id m)
       × Stands q (record { front = f; dgram = dgram; came = c; upstream = u; message = m; id = id; events = [] })
+
+  -- a message begins so, whichever upstream is asked for it under whichever identifier
+  abbrev pub Takes : Fronting → Dgram → ClientMessage → TakenMessage R → Type 0
+  Takes f dgram c (Taken_as.Sent o) = (u : UpstreamConfig) (id : ℕ) → Begins f dgram c u id (Sent o)
+  Takes f dgram c Taken_as.Short = (u : UpstreamConfig) (id : ℕ) → Begins f dgram c u id Short
+  Takes f dgram c (Taken_as.Passed p) = (u : UpstreamConfig) (id : ℕ) (b : BegunQuery R) → IsAsked p u id b → Begins f dgram c u id b
 
 -- what an event leads to, by what the lookup says: the upstream is sent that, or a connection to it is opened, and this is kept; or the
 -- client is sent all that it is sent, and nothing is kept

@@ -7,7 +7,7 @@ ghost use Rattle.dns_session.specs.Datagrams.{asks_nothing};
 ghost use Rattle.dns_proxy.specs.declared.query_event.ClientMessage.{ClientMessage as TheMessage};
 ghost use Rattle.dns_proxy.specs.Coming.{message_of, request_of};
 ghost use Rattle.dns_proxy.specs.Fronts.{fronting};
-ghost use Rattle.dns_proxy.specs.Queries.{Begins, IsAsked, front_taken, replied};
+ghost use Rattle.dns_proxy.specs.Queries.{Begins, IsAsked, Takes, front_taken, replied};
 
 use crate::coming::{octets_read, refuse, request_of};
 use crate::front::{Front, Taken};
@@ -28,6 +28,27 @@ pub enum BegunQuery<R> {
     Short,
     /// An upstream is to be sent this.
     Asks(Query<R>, Octets),
+}
+
+/// What a message is taken for, before it is known which upstream is asked for it.
+#[derive(Drop)]
+pub enum TakenMessage<R> {
+    /// Its client is to be sent this, if there is something, and no upstream is asked.
+    Sent(Option<Octets>),
+    /// The message is shorter than a header. Nothing is sent for it, and a connection over which it came is to be closed.
+    Short,
+    /// An upstream is to be asked for it.
+    Passed(PassedQuery<R>),
+}
+
+/// A client's query for which an upstream is to be asked, whichever it is.
+#[derive(Drop)]
+pub struct PassedQuery<R> {
+    pub(crate) client: u64,
+    pub(crate) request: Request<()>,
+    pub(crate) limit: Option<u16>,
+    pub(crate) rule: R,
+    pub(crate) message: Message,
 }
 
 /// How many octets a reply to a request may take, if that is limited.
@@ -52,16 +73,39 @@ pub fn begin_query<F: Front>(
         IfOk result (Begins F.Rule.rewriting f config.now came.now upstream id) }
     ensures front { OnOk result (front.new ≡ front_taken F.after_take config.now came.now front.old) }
 {
+    let taken = take_message(alloc, front, config, came)?;
+    match taken {
+        TakenMessage::Sent(octets) => Ok(BegunQuery::Sent(octets)),
+        TakenMessage::Short => Ok(BegunQuery::Short),
+        TakenMessage::Passed(passed) => {
+            let (query, octets) = ask_passed(alloc, passed, upstream, id)?;
+            Ok(BegunQuery::Asks(query, octets))
+        }
+    }
+}
+
+/// Takes a client's message, as `begin_query` begins with it, short of asking an upstream. So nobody needs to know which is asked
+/// of a message that is answered at once.
+pub(crate) fn take_message<F: Front>(
+    alloc: Global,
+    front: &mut F,
+    config: &DgramConfig,
+    came: &ClientMessage,
+) -> Result<TakenMessage<F::Rule>, OutOfMemory>
+    ensures taken { let f = fronting (F.over front.old) (F.hint front.old) (F.asks front.old) in
+        IfOk result (Takes F.Rule.rewriting f config.now came.now) }
+    ensures front { OnOk result (front.new ≡ front_taken F.after_take config.now came.now front.old) }
+{
     let octets = octets_read(alloc, came)?;
     let Ok(message) = Message::from_octets(octets) else {
-        return Ok(BegunQuery::Short);
+        return Ok(TakenMessage::Short);
     };
     if message.header().qr {
         let refusal = refuse(alloc, &message, came.transport, config)?;
-        return Ok(BegunQuery::Sent(Some(refusal)));
+        return Ok(TakenMessage::Sent(Some(refusal)));
     }
     let request = request_of(alloc, config, came, message)?;
-    take(alloc, front, came.client, request, upstream, id)
+    take(alloc, front, came.client, request)
 }
 
 /// A request is taken.
@@ -70,12 +114,10 @@ fn take<F: Front>(
     front: &mut F,
     client: u64,
     request: Request<()>,
-    upstream: UpstreamConfig,
-    id: u16,
-) -> Result<BegunQuery<F::Rule>, OutOfMemory>
-    ensures begun { let f = fronting (F.over front.old) (F.hint front.old) (F.asks front.old) in
-        IfOk result (λ b. (dgram : Dgram) (c : TheMessage) → request ≡ request_of dgram c → client ≡ c.client
-        → asks_nothing (message_of c) ≡ false → Begins F.Rule.rewriting f dgram c upstream id b) }
+) -> Result<TakenMessage<F::Rule>, OutOfMemory>
+    ensures taken { let f = fronting (F.over front.old) (F.hint front.old) (F.asks front.old) in
+        IfOk result (λ t. (dgram : Dgram) (c : TheMessage) → request ≡ request_of dgram c → client ≡ c.client
+        → asks_nothing (message_of c) ≡ false → Takes F.Rule.rewriting f dgram c t) }
     ensures front { OnOk result (front.new ≡ F.after_take front.old request) }
 {
     let mut request = request;
@@ -83,9 +125,13 @@ fn take<F: Front>(
     let limit = limit_of(&request);
     match taken {
         Taken::Own(item) => answer(alloc, &request, limit, item),
-        Taken::Passed(rule, message) => {
-            ask(alloc, client, request, limit, rule, message, upstream, id)
-        }
+        Taken::Passed(rule, message) => Ok(TakenMessage::Passed(PassedQuery {
+            client,
+            request,
+            limit,
+            rule,
+            message,
+        })),
     }
 }
 
@@ -95,26 +141,29 @@ fn answer<R>(
     request: &Request<()>,
     limit: Option<u16>,
     item: ServiceResult,
-) -> Result<BegunQuery<R>, OutOfMemory>
-    ensures { IfOk result (λ b. b ≡ BegunQuery.Sent (replied limit request.now.octets item)) }
+) -> Result<TakenMessage<R>, OutOfMemory>
+    ensures { IfOk result (λ t. t ≡ TakenMessage.Sent (replied limit request.now.octets item)) }
 {
     let octets = replied(alloc, request.message(), limit, item)?;
-    Ok(BegunQuery::Sent(octets))
+    Ok(TakenMessage::Sent(octets))
 }
 
-/// An upstream is asked a message for a request.
-fn ask<R: Drop>(
+/// An upstream is asked for a query that was passed on, by these octets.
+pub(crate) fn ask_passed<R: Drop>(
     alloc: Global,
-    client: u64,
-    request: Request<()>,
-    limit: Option<u16>,
-    rule: R,
-    message: Message,
+    passed: PassedQuery<R>,
     upstream: UpstreamConfig,
     id: u16,
-) -> Result<BegunQuery<R>, OutOfMemory>
-    ensures { IfOk result (IsAsked client request limit rule message upstream id) }
+) -> Result<(Query<R>, Octets), OutOfMemory>
+    ensures { IfOk result (λ b. IsAsked passed upstream id (BegunQuery.Asks b.0 b.1)) }
 {
+    let PassedQuery {
+        client,
+        request,
+        limit,
+        rule,
+        message,
+    } = passed;
     let at = request.received_at();
     let (lookup, octets) = begin_lookup(alloc, upstream, message, id, at)?;
     let query = Query {
@@ -124,5 +173,5 @@ fn ask<R: Drop>(
         rule,
         lookup,
     };
-    Ok(BegunQuery::Asks(query, octets))
+    Ok((query, octets))
 }

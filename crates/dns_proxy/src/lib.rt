@@ -2,8 +2,9 @@
 //! input and output.
 //!
 //! - `Proxy` keeps queries at places, of which there are a stated number at most. Each place has a port of its own.
-//! - `begin` starts with a client's message (`ClientMessage`), and `Started` says what comes of it. `step` gives the
-//!   query at a place an event, with a `QueryOutcome`. `deadline` says when a tick at a place is due.
+//! - `begin` starts with a client's message (`ClientMessage`), and `Started` says what comes of it. `take` and `ask` are
+//!   its two halves: what is answered at once is known before an upstream is picked (`TakenMessage`, `PassedQuery`).
+//! - `step` gives the query at a place an event, with a `QueryOutcome`. `deadline` says when a tick at a place is due.
 //! - A message comes in a datagram or over a connection (`ClientTransport`). Those of one connection are begun as they
 //!   come, and each is answered as soon as its own answer is there (RFC 7766, section 6.2.1.1).
 //! - `WhenFull` says what is done with one query more than there may be: its client is answered, or it is to wait.
@@ -40,7 +41,7 @@ mod query;
 mod query_event;
 mod replied;
 
-pub use beginning::{BegunQuery, begin_query};
+pub use beginning::{BegunQuery, PassedQuery, TakenMessage, begin_query};
 pub use dns_lookup::{LookupEvent, UpstreamConfig};
 pub use front::{Front, Taken};
 pub use proxy::{Proxy, Started, WhenFull};

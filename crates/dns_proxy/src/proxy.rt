@@ -1,12 +1,16 @@
 //! All queries that are asked of upstreams, each at a place of its own.
 
 ghost use Rattle.std.specs.Prelude.{◌≡◌, ◌≢◌, ◌≤◌, ℕ, [], IfOk, MatchOption, None, OnErr, OnOk, Option, Some, length, slice_get};
-ghost use Rattle.dns_proxy.specs.Fronts.{fronting};
-ghost use Rattle.dns_proxy.specs.Places.{Enters, GoesAt, IsFull, IsSame, StandsAt, Starts, due_there, ends, front_at, kept_at};
-ghost use Rattle.dns_proxy.specs.Proxied.{Asked};
-ghost use Rattle.dns_proxy.specs.Queries.{Stands};
+ghost use Rattle.dns_proxy.specs.Fronts.{Fronting, fronting};
+ghost use Rattle.dns_proxy.specs.Places.{Enters, GoesAt, IsFull, IsSame, StandsAt, Starts, StartsBy, due_there, ends, front_at, kept_at};
+ghost use Rattle.dns_proxy.specs.Proxied.{Asked, asked_for};
+ghost use Rattle.dns_proxy.specs.Queries.{Stands, Takes, front_taken};
+ghost use Rattle.dns_proxy.specs.declared.beginning.TakenMessage.TheVariants.{Passed};
+ghost use Rattle.dns_proxy.specs.declared.query_event.ClientMessage.{ClientMessage as TheMessage};
 
-use crate::beginning::{BegunQuery, begin_query};
+use crate::beginning::{
+    BegunQuery, PassedQuery, TakenMessage, ask_passed, begin_query, take_message,
+};
 use crate::front::Front;
 use crate::query::Query;
 use crate::query_event::{ClientMessage, QueryOutcome};
@@ -208,6 +212,44 @@ impl<F: Front> Proxy<F> {
                 }
                 WhenFull::Wait => Ok(Started::Full),
             },
+            Err(error) => Err(error),
+        }
+    }
+
+    /// Takes a client's message, as `begin` starts with it, short of asking an upstream: so nobody needs to know which is asked, and
+    /// under which identifier, of a message that is answered at once. No place changes.
+    pub fn take(
+        &mut self,
+        alloc: Global,
+        came: &ClientMessage,
+    ) -> Result<TakenMessage<F::Rule>, OutOfMemory>
+        ensures taken { let f = fronting (F.over self.old.front) (F.hint self.old.front) (F.asks self.old.front) in
+            IfOk result (Takes F.Rule.rewriting f self.old.config came.now) }
+        ensures front { OnOk result (self.new.front ≡ front_taken F.after_take self.old.config came.now self.old.front) }
+        ensures rest { self.new ≡ record self.old { front = self.new.front } }
+    {
+        take_message(alloc, &mut self.front, &self.config, came)
+    }
+
+    /// Asks an upstream for a query that was taken, as `begin` does.
+    pub fn ask(
+        &mut self,
+        alloc: Global,
+        passed: PassedQuery<F::Rule>,
+        upstream: UpstreamConfig,
+        id: u16,
+        when_full: WhenFull,
+    ) -> Result<Started, OutOfMemory>
+        ensures asked { IfOk result (λ s. (f : Fronting) (c : TheMessage) → Takes F.Rule.rewriting f self.old.config c (Passed passed)
+            → StartsBy F.Rule.rewriting F.given F.after_give (asked_for f self.old.config c) self.old.bound when_full f
+            self.old.config c upstream id
+            self.old.front self.old.places.items s self.new.front self.new.places.items) }
+        ensures err { OnErr result (IsSame self.old.places.items self.new.places.items) }
+        ensures bounded { length self.old.places.items ≤ self.old.bound → length self.new.places.items ≤ self.old.bound }
+        ensures rest { self.new ≡ record self.old { front = self.new.front; places = self.new.places } }
+    {
+        match ask_passed(alloc, passed, upstream, id) {
+            Ok((query, octets)) => self.enter(alloc, query, octets, when_full),
             Err(error) => Err(error),
         }
     }
