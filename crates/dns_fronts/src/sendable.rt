@@ -17,9 +17,9 @@ pub(crate) fn sendable(alloc: Global, request: &Request<()>) -> Result<Option<Me
     ensures { IfOk result (λ m. m ≡ sendable request.now.octets) }
 {
     let message = request.message();
-    match lone_question(message) {
+    match only_question(message) {
         Some(question) => {
-            let sent = message_of(alloc, message.header(), &question)?;
+            let sent = lone_message(alloc, message.header(), &question)?;
             Ok(Some(sent))
         }
         None => read_sendable(alloc, request),
@@ -34,7 +34,7 @@ fn asks_alone(counts: HeaderCounts) -> bool
 }
 
 /// The question of a message that has no records, so that it needn't be read to be sent.
-fn lone_question(message: &Message) -> Option<QuestionRef<'_>>
+fn only_question(message: &Message) -> Option<QuestionRef<'_>>
     ensures { IfSome result (λ q. AsksAlone message.now q) }
 {
     let counts = message.header_counts();
@@ -45,7 +45,7 @@ fn lone_question(message: &Message) -> Option<QuestionRef<'_>>
 }
 
 /// The message of a header and one question.
-fn message_of(
+fn lone_message(
     alloc: Global,
     header: Header,
     question: &QuestionRef<'_>,

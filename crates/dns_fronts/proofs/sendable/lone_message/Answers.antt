@@ -1,5 +1,5 @@
 use Rattle.dns_fronts.proofs.LoneQuestions.{lone_wire}
-use Rattle.dns_fronts.proofs.sendable.message_of.Goals as goal
+use Rattle.dns_fronts.proofs.sendable.lone_message.Goals as goal
 
 pub returns-clause-value : goal.returns-clause-value
 returns-clause-value c = lone_wire c.args.header c.args.question.now _ (cc)
