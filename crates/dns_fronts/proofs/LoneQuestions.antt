@@ -1,24 +1,22 @@
 -- A request of one question and no records is sent as it is written.
-use Rattle.std.proofs.Common.{◌≡◌, ℕ, ◌+◌, ◌≤◌, Bool, true, false, ◌&&◌, List, [], ◌∷◌, ◌++◌, length, Option, Some, None, Result, Ok, Err, refl, ap, sym, ◌∙◌, arith, append-nil, length-append}
+use Rattle.std.proofs.Common.{◌≡◌, ℕ, ◌≤◌, Bool, List, [], ◌∷◌, ◌++◌, length, Some, None, Ok, Err, ap, sym, ◌∙◌, arith, append-nil, length-append}
 use Rattle.std.specs.Prelude.{nat_eq, nat_le, if◌then◌else◌}
 use Rattle.std.specs.Cmp.{first_so, second_so}
 use Rattle.std.proofs.lemmas.Bool.{le-leb}
 use borrow.Author.Tests.{eqb-true}
 use Rattle.dns_name.specs.Labels.{spell}
-use Rattle.dns_name.specs.Place.{Read}
-use Rattle.dns_name.specs.declared.error.ParseError.{ParseError}
+use Rattle.dns_name.specs.Place.{Read, two}
 use Rattle.dns_message.specs.Read.{question_at}
 use Rattle.dns_message.specs.Standing.{standing_at, record_at}
 use Rattle.dns_message.specs.declared.header.Header.{Header}
 use Rattle.dns_message.specs.declared.question.Question.{Question}
 use Rattle.dns_base.specs.Header.{header_octets, header_of}
-use Rattle.dns_base.specs.Msg.{HasName, Msg}
+use Rattle.dns_base.specs.Msg.{HasName}
 use Rattle.dns_base.specs.Sections.{Items, all_of, answers_of, authority_of, by_item, field, first_of, items_behind, items_from, questions_of, reached, standing_additional, standing_answers, standing_authority}
-use Rattle.dns_base.specs.Standing.{Standing}
 use Rattle.dns_base.specs.Wire.{question_octets, wire}
 use Rattle.dns_opt.specs.OptRecords.{opt_in, opt_of}
 use Rattle.dns_service.specs.Copied.{copied, copied_records, gathered, others_of, whole_list}
-use Rattle.dns_route.specs.RequestMessage.{RequestState, request_with}
+use Rattle.dns_route.specs.RequestMessage.{request_with}
 use Rattle.dns_fronts.specs.Layered.{AsksAlone, lone_question, read_sent, sendable}
 
 one_item : (one : ℕ → Read Question) (at : ℕ) (q : Question) → first_of (items_from one 1 at).0 ≡ Some q → (end : ℕ) × (items_from one 1 at ≡ (q ∷ [], Ok end))
@@ -58,7 +56,7 @@ module _ (o : List ℕ) (q : Question) (end : ℕ) (asked : questions_of o ≡ (
   copied_alone = λ i. gathered (header_of o) (whole_list (all_of (asked i))) (copied_records (all_of (standing_none i))) (copied_records (all_of (authority_none i))) (others_of (copied_records (all_of (additional_none i))))
 
   no_opt : opt_of o ≡ None
-  no_opt = λ i. opt_in (reached (no_authority i).1 (all_of (additional_none i)))
+  no_opt = λ i. opt_in (reached (no_authority i).1 (additional_none i))
 
 wire_alone : (h : Header) (q : Question) → wire (lone_question h q) ≡ header_octets h ++ (0 ∷ 1 ∷ 0 ∷ 0 ∷ 0 ∷ 0 ∷ 0 ∷ 0 ∷ question_octets q)
 unfolding wire
@@ -71,7 +69,7 @@ lone_wire h q o e = e ∙ sym (wire_alone h q)
 short_alone : (h : Header) (q : Question) → HasName q → length (wire (lone_question h q)) ≤ 65535
 short_alone h q n =
     let a = ap length (wire_alone h q) in
-    let b = length-append (spell q.qname) _ in
+    let b = length-append (spell q.qname) (two q.qtype ++ two q.qclass) in
     omega (arith, a, b, n.room)
 
 -- it is sent for a request of one question and no records
