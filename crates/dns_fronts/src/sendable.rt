@@ -1,8 +1,9 @@
 //! The message that an upstream is asked for a request.
 
-ghost use Rattle.std.specs.Prelude.{◌≡◌, IfOk, IfSome};
+ghost use Rattle.std.specs.Prelude.{◌≡◌, ◌≤◌, ◌++◌, ◌∷◌, [], length, IfOk, IfSome, OnOk};
+ghost use Rattle.dns_base.specs.Header.{header_octets};
 ghost use Rattle.dns_base.specs.Msg.{HasName};
-ghost use Rattle.dns_base.specs.Wire.{wire};
+ghost use Rattle.dns_base.specs.Wire.{question_octets, wire};
 ghost use Rattle.dns_fronts.specs.Layered.{AsksAlone, asks_alone, lone_question, message_sent, sendable};
 
 use dns_base::{ComposeQuestion, Header, HeaderCounts, Message, PushError, QuestionRef};
@@ -51,13 +52,37 @@ fn lone_message(
     question: &QuestionRef<'_>,
 ) -> Result<Message, OutOfMemory>
     ensures value { IfOk result (λ m. m ≡ wire (lone_question header question.now)) }
-    ensures named { HasName question.now }
+    ensures named { IfOk result (λ m. HasName question.now) }
+{
+    let octets = lone_octets(alloc, header, question)?;
+    Ok(Message::of(octets))
+}
+
+/// The octets of a header that states one question, and of that question.
+fn lone_octets(
+    alloc: Global,
+    header: Header,
+    question: &QuestionRef<'_>,
+) -> Result<Vec<u8>, OutOfMemory>
+    ensures octets { IfOk result (λ v. v.items
+        ≡ (header_octets header ++ (0 ∷ 1 ∷ 0 ∷ 0 ∷ 0 ∷ 0 ∷ 0 ∷ 0 ∷ [])) ++ question_octets question.now) }
+    ensures header { IfOk result (λ v. 12 ≤ length v.items) }
+    ensures named { IfOk result (λ v. HasName question.now) }
 {
     let mut octets = Vec::with_capacity(alloc, 12 + question.compose_len())?;
-    octets.extend_from_slice(&header.octets())?;
-    octets.extend_from_slice(&[0, 1, 0, 0, 0, 0, 0, 0])?;
+    push_head(header, &mut octets)?;
     question.compose_question(alloc, &mut octets)?;
-    Ok(Message::of(octets))
+    Ok(octets)
+}
+
+/// Appends a header that states one question.
+fn push_head(header: Header, target: &mut Vec<u8>) -> Result<(), OutOfMemory>
+    ensures { OnOk result (target.new.items
+        ≡ target.old.items ++ (header_octets header ++ (0 ∷ 1 ∷ 0 ∷ 0 ∷ 0 ∷ 0 ∷ 0 ∷ 0 ∷ []))) }
+{
+    target.extend_from_slice(&header.octets())?;
+    target.extend_from_slice(&[0, 1, 0, 0, 0, 0, 0, 0])?;
+    Ok(())
 }
 
 /// The message that is sent on for a request, which is read for it.
