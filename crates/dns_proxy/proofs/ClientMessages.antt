@@ -1,6 +1,6 @@
 -- What a client's message begins: a query, or a reply that is sent at once.
-use Rattle.std.proofs.Common.{◌≡◌, ◌≤◌, ◌<◌, ℕ, Bool, true, false, List, [], ◌∷◌, ◌++◌, ◌+◌, cond, refl, ap, sym, subst, ◌∙◌, Some, None, Option, length, lt-ltb}
-use Rattle.std.specs.Prelude.{◌||◌, nat_lt, option_map}
+use Rattle.std.proofs.Common.{◌≡◌, ◌≤◌, ◌<◌, ℕ, Bool, true, false, List, [], ◌∷◌, ◌++◌, ◌+◌, cond, refl, ap, sym, subst, ◌∙◌, Some, None, Option, Result, Ok, Err, length, lt-ltb}
+use Rattle.std.specs.Prelude.{◌||◌, OnOk, nat_lt, option_map}
 use Rattle.std.proofs.lemmas.List.{append-nil}
 use Rattle.std.proofs.lemmas.Bool.{le-ltb}
 use Rattle.dns_base.specs.Header.{header_of}
@@ -252,3 +252,8 @@ module _ {R : Type 0} (rewriting : R → Msg → Msg) (f : Fronting) (dgram : Dg
   sent_begins own t passes over is =
       subst (λ (x : TakenMessage R). Takes rewriting f dgram c x) (sym is)
       (λ u id. answered f dgram c own n (replied n new.octets own) r e asks passes over (limit_left n r new (f.hint r) reserved left kept) (ap (λ (x : Req (Unit {0})). replied n x.octets own) kept))
+
+-- what holds anyway
+pub on_ok : {T E P : Type 0} (r : Result T E) → P → OnOk r P
+on_ok (Ok x) p = p
+on_ok (Err e) p = tt

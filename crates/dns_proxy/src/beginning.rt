@@ -77,10 +77,7 @@ pub fn begin_query<F: Front>(
     match taken {
         TakenMessage::Sent(octets) => Ok(BegunQuery::Sent(octets)),
         TakenMessage::Short => Ok(BegunQuery::Short),
-        TakenMessage::Passed(passed) => {
-            let (query, octets) = ask_passed(alloc, passed, upstream, id)?;
-            Ok(BegunQuery::Asks(query, octets))
-        }
+        TakenMessage::Passed(passed) => ask(alloc, passed, upstream, id),
     }
 }
 
@@ -148,7 +145,20 @@ fn answer<R>(
     Ok(TakenMessage::Sent(octets))
 }
 
-/// An upstream is asked for a query that was passed on, by these octets.
+/// An upstream is asked for a query that was passed on.
+fn ask<R: Drop>(
+    alloc: Global,
+    passed: PassedQuery<R>,
+    upstream: UpstreamConfig,
+    id: u16,
+) -> Result<BegunQuery<R>, OutOfMemory>
+    ensures { IfOk result (IsAsked passed upstream id) }
+{
+    let (query, octets) = ask_passed(alloc, passed, upstream, id)?;
+    Ok(BegunQuery::Asks(query, octets))
+}
+
+/// The query that stands for one that was passed on once an upstream is asked for it, and the octets that this is sent.
 pub(crate) fn ask_passed<R: Drop>(
     alloc: Global,
     passed: PassedQuery<R>,
