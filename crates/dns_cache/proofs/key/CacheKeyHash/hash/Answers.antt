@@ -7,7 +7,7 @@ use Rattle.dns_cache.proofs.key.CacheKeyHash.hash.Goals as goal
 pub returns : goal.returns
 returns g c =
     let written = g.H.Hasher.write c.args.state.now in
-    let name : c.write.new.state ≡ written (spell c.args.self.now.name) = c.write.ensures ∙ ap written (c.as_slice.ensures ∙ (c.self.invariant.whole ∙ ap (λ (k : AskedKey). spell k.name) c.self.view_is)) in
+    let name : c.write.new.self ≡ written (spell c.args.self.now.name) = c.write.ensures ∙ ap written (c.as_slice.ensures ∙ (c.self.invariant.whole ∙ ap (λ (k : AskedKey). spell k.name) c.self.view_is)) in
     c.hash.ensures
     ∙ (ap (λ s. fold g.H.Hasher.write s (fed.u16 c.self.inside.qtype)) name
     ∙ ap (λ (k : AskedKey). fold g.H.Hasher.write (written (spell c.args.self.now.name)) (fed.u16 k.qtype)) c.self.view_is)
