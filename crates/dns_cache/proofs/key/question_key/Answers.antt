@@ -1,4 +1,4 @@
-use Rattle.std.proofs.Common.{◌≡◌, List, ℕ, Some, ap, sym, subst, ◌∙◌}
+use Rattle.std.proofs.Common.{◌≡◌, Some, ap, sym, subst, ◌∙◌}
 use Rattle.dns_name.specs.Labels.{IsName, folded}
 use Rattle.dns_name.specs.Names.{labels_of, uncompressed_at}
 use Rattle.dns_name.proofs.Spelt.{is_spelt, labels_alone}
