@@ -10,4 +10,4 @@ returns g c =
     let name : c.write.new.self ≡ written (spell c.args.self.now.name) = c.write.ensures ∙ ap written (c.as_slice.ensures ∙ (c.self.invariant.whole ∙ ap (λ (k : AskedKey). spell k.name) c.self.view_is)) in
     c.hash.ensures
     ∙ (ap (λ s. fold g.H.Hasher.write s (fed.u16 c.to_int.result)) name
-    ∙ ap (λ (n : ℕ). fold g.H.Hasher.write (written (spell c.args.self.now.name)) (fed.u16 n)) (c.to_int.ensures ∙ ap (λ (k : AskedKey). k.qtype) c.self.view_is))
+    ∙ ap (λ (n : ℕ). fold g.H.Hasher.write (written (spell c.args.self.now.name)) (fed.u16 n)) (c.to_int.ensures.value ∙ ap (λ (k : AskedKey). k.qtype) c.self.view_is))
