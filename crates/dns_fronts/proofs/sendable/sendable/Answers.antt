@@ -10,7 +10,8 @@ pub returns-in_ok-sent-in-Some : goal.returns-in_ok-sent-in-Some
 returns-in_ok-sent-in-Some c =
     let o = c.args.request.now.octets in
     let q = c.in-Some.question in
-    let asks : AsksAlone o q = subst (λ (m : List ℕ). AsksAlone m q) c.message.ensures c.in-Some.ensures in
+    let asks : AsksAlone o q = subst (λ (m : List ℕ). AsksAlone m q) (c.deref.ensures ∙ c.message-message.ensures) c.in-Some.ensures in
     let says = c.in_ok-sent-in-Some.ensures in
-    ap (λ (m : List ℕ). Some m) (says.value ∙ ap (λ (h : Header). wire (lone_question h q)) (c.header.ensures ∙ ap header_of c.message.ensures))
+    ap (λ (m : List ℕ). Some m)
+    (says.value ∙ ap (λ (h : Header). wire (lone_question h q)) (c.header.ensures ∙ ap header_of (c.deref-in-Some.ensures ∙ c.message-message.ensures)))
     ∙ sym (sent_alone o q asks says.named)
