@@ -1,3 +1,4 @@
 mod LayerDecisions
 mod LayersOverCache
+mod LoneQuestions
 mod ServerReplyLaws

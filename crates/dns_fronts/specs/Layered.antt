@@ -1,6 +1,11 @@
 -- The layers before upstreams: what is answered if an item is given for a request, and what an upstream is asked.
-use Rattle.std.specs.Prelude.{ℕ, List, Option, Some, None, length, nat_le, if◌then◌else◌, Result, Ok, Err}
+use Rattle.std.specs.Prelude.{ℕ, ◌≡◌, ◌&&◌, Bool, true, List, [], ◌∷◌, Option, Some, None, length, nat_eq, nat_le, if◌then◌else◌, Result, Ok, Err}
 use Rattle.dns_name.specs.declared.error.ParseError.{ParseError}
+use Rattle.dns_message.specs.declared.header.Header.{Header}
+use Rattle.dns_message.specs.declared.header.HeaderCounts.{HeaderCounts}
+use Rattle.dns_message.specs.declared.question.Question.{Question}
+use Rattle.dns_base.specs.Msg.{Msg}
+use Rattle.dns_base.specs.Sections.{counts_of, first_of, questions_of}
 use Rattle.dns_base.specs.Wire.{wire}
 use Rattle.dns_events.specs.declared.settings.Settings.{Settings}
 use Rattle.dns_service.specs.Answer.{Answer, Item}
@@ -30,6 +35,16 @@ read_sent (Err e) = None
 -- the message that is sent for octets that are a request, if they can be read
 abbrev pub sendable : List ℕ → Option (List ℕ)
 sendable o = read_sent (request_of o)
+
+-- octets that state one question, which this is, and no records; and the message of a header and one question
+abbrev pub asks_alone : HeaderCounts → Bool
+asks_alone c = nat_eq c.qdcount 1 && (nat_eq c.ancount 0 && (nat_eq c.nscount 0 && nat_eq c.arcount 0))
+
+abbrev pub AsksAlone : List ℕ → Question → Type 0
+AsksAlone o q = (asks_alone (counts_of o) ≡ true) × (first_of (questions_of o).0 ≡ Some q)
+
+abbrev pub lone_question : Header → Question → Msg
+lone_question h q = record { header = h; questions = q ∷ []; answers = []; authority = []; additional = [] }
 
 -- what is given for a request: InternalError if nothing can be sent for it
 abbrev pub given_where : Option (List ℕ) → Item → Item

@@ -14,14 +14,15 @@ use crate::port::Port;
 use crate::token::Source;
 use dns_cache::Cache;
 use dns_fronts::{CachedFront, ServerFront};
+use dns_message::MessageRef;
 use dns_name::{Octets, OutOfMemory};
 use dns_outside::{Clock, HostClock};
 use dns_outstanding::Outstanding;
-use dns_proxy::{ClientMessage, ClientTransport, Proxy, Started};
+use dns_proxy::{ClientMessage, ClientTransport, Proxy, Started, TakenMessage};
 use dns_proxy_config::{Config, WhenFull};
 use dns_proxy_status::{ProxyCounts, ProxyEvent};
 use dns_service::StreamConfig;
-use dns_upstreams::{Seed, UpstreamConfig, Upstreams};
+use dns_upstreams::{Seed, Upstreams};
 use mio::{Events, Poll, Token, Waker};
 use rand::rngs::StdRng;
 use rand::{RngExt, make_rng};
@@ -82,6 +83,14 @@ pub(crate) fn first_octets(octets: &[u8], count: usize) -> &[u8]
     match octets.get(..count) {
         Some(first) => first,
         None => octets,
+    }
+}
+
+/// Whether octets are a query: a message that is no response. Nothing is ever sent for others.
+fn is_query(octets: &[u8]) -> bool {
+    match MessageRef::from_slice(octets) {
+        Ok(message) => !message.header().qr,
+        Err(_) => false,
     }
 }
 
@@ -355,19 +364,30 @@ impl<R: Net + rt::Clock + RandomSource + Copy> Forwarder<R> {
         }
     }
 
-    /// Begins with a client's message, and gives it back if it is to wait. Nothing is sent for one that is no query.
+    /// Begins with a client's message, and gives it back if it is to wait. Nothing is sent for one that is no query. Which server is
+    /// asked is picked only for one that isn't answered at once.
     fn begun(&mut self, client: Client, octets: Octets) -> Result<Option<Octets>, OutOfMemory> {
-        let drawn = self.drawn_for(octets.as_slice())?;
-        match self
-            .upstreams
-            .asked_server(self.alloc, octets.as_slice(), drawn.number)?
-        {
-            Some(server) => self.start(client, server, drawn, octets),
-            None => {
-                self.reply(client, None);
-                Ok(None)
+        if !is_query(octets.as_slice()) {
+            self.reply(client, None);
+            return Ok(None);
+        }
+        let came = self.came(client, octets);
+        match self.proxy.take(self.alloc, &came)? {
+            TakenMessage::Sent(octets) => self.answer(client, octets),
+            TakenMessage::Short => self.reply(client, None),
+            TakenMessage::Passed(passed) => {
+                let Some(asked) = self.place_for(client, came.octets.as_slice())? else {
+                    self.reply(client, None);
+                    return Ok(None);
+                };
+                let (id, when_full) = (asked.drawn.id, self.clients.when_full());
+                let started = self
+                    .proxy
+                    .ask(self.alloc, passed, asked.server, id, when_full)?;
+                return Ok(self.started(asked, started, came.octets));
             }
         }
+        Ok(None)
     }
 
     /// A client's message, as the core takes it.
@@ -390,34 +410,35 @@ impl<R: Net + rt::Clock + RandomSource + Copy> Forwarder<R> {
         }
     }
 
-    /// Starts with a client's message, for which a server is asked, and gives it back if it is to wait.
-    fn start(
-        &mut self,
-        client: Client,
-        server: UpstreamConfig,
-        drawn: Drawn,
-        octets: Octets,
-    ) -> Result<Option<Octets>, OutOfMemory> {
-        let came = self.came(client, octets);
-        let when_full = self.clients.when_full();
-        match self
-            .proxy
-            .begin(self.alloc, &came, server, drawn.id, when_full)?
-        {
-            Started::Sent(octets) => {
-                if let Some(reply) = &octets {
-                    self.counts.count_at_once(reply.as_slice());
-                }
-                self.reply(client, octets)
-            }
-            Started::Short => self.reply(client, None),
-            Started::Full => return Ok(Some(came.octets)),
+    /// A query of a client's message: the server that is asked for it, and what was drawn. None if it is no query.
+    fn place_for(&mut self, client: Client, datagram: &[u8]) -> Result<Option<Place>, OutOfMemory> {
+        let drawn = self.drawn_for(datagram)?;
+        let server = self
+            .upstreams
+            .asked_server(self.alloc, datagram, drawn.number)?;
+        Ok(server.map(|server| Place::new(client, server, drawn)))
+    }
+
+    /// Does what a query starts with, whose message this was. The message is given back if it is to wait.
+    fn started(&mut self, asked: Place, started: Started, message: Octets) -> Option<Octets> {
+        match started {
+            Started::Sent(octets) => self.answer(asked.client, octets),
+            Started::Short => self.reply(asked.client, None),
+            Started::Full => return Some(message),
             Started::Asks { place, octets } => {
                 // What can't be sent because memory ran out is lost, as it may be on its way.
-                let _ = self.ask(place, Place::new(client, server, drawn), octets);
+                let _ = self.ask(place, asked, octets);
             }
         }
-        Ok(None)
+        None
+    }
+
+    /// Sends a client what it is sent at once, if it is sent something.
+    fn answer(&mut self, client: Client, octets: Option<Octets>) {
+        if let Some(reply) = &octets {
+            self.counts.count_at_once(reply.as_slice());
+        }
+        self.reply(client, octets)
     }
 
     /// What was drawn for a datagram's question if it is asked already, so that an equal message may be joined to it; or else what is
