@@ -1,1 +1,5 @@
+pub mod Follows
+pub mod Looks
+pub mod OneByOne
 pub mod Places
+pub mod Reported

@@ -1,2 +1,5 @@
+pub mod Following
+pub mod Looking
+pub mod Reporting
 pub mod Secondaries
 pub mod Targets

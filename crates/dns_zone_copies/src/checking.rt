@@ -1,6 +1,7 @@
 //! A check in a thread of its own.
 
 use crate::check::{Check, Checked, run};
+use anyhow::bail;
 use std::alloc::Global;
 use std::sync::Arc;
 use std::sync::atomic::{AtomicBool, Ordering};
@@ -16,6 +17,17 @@ pub(crate) struct Checking {
     deadline: u64,
 }
 
+/// A check that can be shared; if there is no memory it is given up.
+fn shareable(alloc: Global, checking: Checking) -> anyhow::Result<Arc<Checking>> {
+    match Arc::new(alloc, checking) {
+        Ok(checking) => Ok(checking),
+        Err(refused) => {
+            refused.value.give_up();
+            bail!("out of memory")
+        }
+    }
+}
+
 impl Checking {
     /// Starts a check that is given up at a moment.
     pub(crate) fn start<R: Threads>(
@@ -23,7 +35,7 @@ impl Checking {
         alloc: Global,
         check: Check,
         deadline: u64,
-    ) -> anyhow::Result<Checking> {
+    ) -> anyhow::Result<Arc<Checking>> {
         let ended = Arc::new(alloc, AtomicBool::new(false))?;
         let theirs = Arc::try_clone(&ended)?;
         let stop = Arc::try_clone(&check.stop)?;
@@ -32,12 +44,15 @@ impl Checking {
             theirs.store(true, Ordering::SeqCst);
             checked
         })?;
-        Ok(Checking {
-            thread,
-            ended,
-            stop,
-            deadline,
-        })
+        shareable(
+            alloc,
+            Checking {
+                thread,
+                ended,
+                stop,
+                deadline,
+            },
+        )
     }
 
     /// Gives it up: it ends after the read that it is in.

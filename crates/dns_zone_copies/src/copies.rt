@@ -1,11 +1,16 @@
 //! The copies of all zones that a server is secondary of.
 
-ghost use Rattle.std.specs.Prelude.{◌≡◌, ◌≤◌, true, IfNone, IfOk, IfSome, OnOk, is_some, string_bytes};
+ghost use Rattle.std.specs.Prelude.{◌≡◌, ◌≤◌, ◌<◌, ◌++◌, [], IfOk, IfSome, OnErr, OnOk, length, map, string_bytes};
 ghost use Rattle.std.specs.Arc.{arc_value};
-ghost use Rattle.std.specs.List.{position};
-ghost use Rattle.dns_zone_copies.specs.Secondaries.{continued, is_of};
+ghost use Rattle.std.specs.List.{AllZip, list_any};
+ghost use Rattle.std.specs.Option.{option_to_list};
+ghost use Rattle.dns_zone_copies.specs.Following.{Follows, HasSecondary};
+ghost use Rattle.dns_zone_copies.specs.Looking.{Looks, LooksAtAll, MayBegin, has_obsolete_copy, without_obsolete_copy};
+ghost use Rattle.dns_zone_copies.specs.Reporting.{Reports};
+ghost use Rattle.dns_zone_copies.specs.Secondaries.{continued};
 ghost use Rattle.dns_zone_copies.specs.Targets.{watched_zones};
 
+use crate::before::Before;
 use crate::checking::Checking;
 use crate::copy_file;
 use crate::secondary::Secondary;
@@ -36,57 +41,6 @@ pub struct Copies {
     next: usize,
 }
 
-/// The place of the first secondary of an entry in a list.
-fn first_of(secondaries: &[Secondary], entry: &ZoneEntry) -> Option<usize>
-    ensures { result ≡ position (is_of entry.now.primary entry.now.name.name) secondaries.now }
-{
-    secondaries
-        .iter()
-        .position(|secondary| secondary.is_of(entry))
-}
-
-/// Takes the last of these, if it is the secondary of an entry.
-fn last_taken_out(secondaries: &mut Vec<Secondary>, entry: &ZoneEntry) -> Option<Secondary>
-    ensures found { IfSome result (λ s. is_of entry.now.primary entry.now.name.name s ≡ true) }
-    ensures left { IfNone result (secondaries.new.items ≡ secondaries.old.items) }
-{
-    match secondaries.pop() {
-        Some(last) => {
-            if last.is_of(entry) {
-                return Some(last);
-            }
-            secondaries.push_reserved(last);
-            None
-        }
-        None => None,
-    }
-}
-
-/// Takes the first of these that is the secondary of an entry.
-#[tactic(auto, using(crate::proofs::Places::position_passes, crate::proofs::Places::position_within))]
-fn first_taken_out(secondaries: &mut Vec<Secondary>, entry: &ZoneEntry) -> Option<Secondary>
-    ensures found { IfSome result (λ s. is_of entry.now.primary entry.now.name.name s ≡ true) }
-    ensures none { IfNone result (position (is_of entry.now.primary entry.now.name.name) secondaries.old.items ≡ None) }
-    ensures left { IfNone result (secondaries.new.items ≡ secondaries.old.items) }
-{
-    match first_of(secondaries.as_slice(), entry) {
-        Some(place) => Some(secondaries.remove(place)),
-        None => None,
-    }
-}
-
-/// Removes the secondary of an entry from a list. It is looked for at the end first.
-fn taken_out(secondaries: &mut Vec<Secondary>, entry: &ZoneEntry) -> Option<Secondary>
-    ensures found { IfSome result (λ s. is_of entry.now.primary entry.now.name.name s ≡ true) }
-    ensures none { IfNone result (position (is_of entry.now.primary entry.now.name.name) secondaries.old.items ≡ None) }
-    ensures left { IfNone result (secondaries.new.items ≡ secondaries.old.items) }
-{
-    match last_taken_out(secondaries, entry) {
-        Some(last) => Some(last),
-        None => first_taken_out(secondaries, entry),
-    }
-}
-
 /// The secondary of an entry with a primary: the one that was there before, if it was, and else a new one. What is served was
 /// current at a moment.
 fn continued(
@@ -109,42 +63,59 @@ fn continued(
     }
 }
 
-/// The secondary of an entry, if that has a primary: one of these, if it was there before.
+/// The secondary of an entry, if that has a primary. It goes on with what was known of the zone before.
 fn secondary_of<R: Files + Clock>(
     rt: &R,
     alloc: Global,
-    before: &mut Vec<Secondary>,
+    before: &mut Before<'_>,
     entry: &ZoneEntry,
     summary: &ZoneSummary,
     now: u64,
 ) -> Result<Option<Secondary>, OutOfMemory>
-    ensures { IfOk result (λ o. is_some o ≡ is_some entry.now.primary) }
+    ensures secondary { IfOk result (HasSecondary before.old.zones.now entry.now entry.now.primary summary.now.timers now) }
+    ensures before { before.new.zones.now ≡ before.old.zones.now }
 {
     let primary = match entry.primary {
         Some(endpoint) => endpoint.address,
         None => return Ok(None),
     };
-    let found = taken_out(before, entry);
+    let found = before.known_of(alloc, entry)?;
     let current = copy_file::current(rt, entry.file.as_str(), now);
     let secondary = continued(alloc, found, entry, primary, summary.timers, current, now)?;
     Ok(Some(secondary))
 }
 
-/// The secondaries of a configuration with these summaries: those from before that are still in it, and new ones.
+/// Puts a secondary, if there is one, after others.
+fn put(secondaries: &mut Vec<Secondary>, secondary: Option<Secondary>) -> Result<(), OutOfMemory>
+    ensures { OnOk result (secondaries.new.items ≡ secondaries.old.items ++ option_to_list secondary) }
+{
+    if let Some(secondary) = secondary {
+        secondaries.push(secondary)?;
+    }
+    Ok(())
+}
+
+/// The secondaries of a configuration's zones with these summaries. Those that were there before go on.
 fn follow_all<R: Files + Clock>(
     rt: &R,
     alloc: Global,
-    before: &mut Vec<Secondary>,
+    zones: &[Secondary],
     config: &Config,
     summaries: &[ZoneSummary],
     now: u64,
-) -> Result<Vec<Secondary>, OutOfMemory> {
+) -> Result<Vec<Secondary>, OutOfMemory>
+    ensures { IfOk result (λ after. Follows zones.now config.now.zone.items summaries.now now after.items) }
+{
     let mut secondaries = Vec::new(alloc);
-    before.reverse();
-    for (entry, summary) in config.zone.iter().zip(summaries.iter()) {
-        if let Some(secondary) = secondary_of(rt, alloc, before, entry, summary, now)? {
-            secondaries.push(secondary)?;
-        }
+    let mut before = Before::new(zones);
+    let mut left = summaries;
+    'each: for entry in config.zone.iter() {
+        let [summary, later @ ..] = left else {
+            return Ok(secondaries);
+        };
+        let secondary = secondary_of(rt, alloc, &mut before, entry, summary, now)?;
+        put(&mut secondaries, secondary)?;
+        left = later;
     }
     Ok(secondaries)
 }
@@ -163,14 +134,28 @@ fn look_at_all<R: Files + Clock + Log + Threads>(
     alloc: Global,
     secondaries: &mut [Secondary],
     now: u64,
-) -> bool {
+) -> bool
+    ensures { LooksAtAll now secondaries.old secondaries.new result }
+{
     let mut changed = false;
-    for secondary in secondaries {
-        if secondary.look(rt, alloc, now) {
-            changed = true;
-        }
+    'each: for secondary in secondaries.iter_mut() {
+        let looked = secondary.look(rt, alloc, now);
+        changed = changed || looked;
     }
     changed
+}
+
+/// Discards the copies that are obsolete. Whether there were any.
+fn discard_all<R: Log>(rt: &R, secondaries: &mut [Secondary], now: u64) -> bool
+    ensures lost { result ≡ list_any (has_obsolete_copy now) secondaries.old }
+    ensures secondaries { secondaries.new ≡ map (without_obsolete_copy now) secondaries.old }
+{
+    let mut any = false;
+    'each: for secondary in secondaries.iter_mut() {
+        let lost = secondary.discard(rt, now);
+        any = any || lost;
+    }
+    any
 }
 
 /// Begins checks that are due, in order, while there is room for them: how many secondaries were looked at, and how much room is
@@ -182,7 +167,8 @@ fn begin_checks<R: Net + Log + Threads>(
     room: usize,
     now: u64,
 ) -> (usize, usize)
-    ensures { result.1 ≤ room }
+    ensures room { result.1 ≤ room }
+    ensures begun { AllZip (MayBegin now) secondaries.old secondaries.new }
 {
     let mut left = room;
     let count = secondaries.len();
@@ -197,20 +183,37 @@ fn begin_checks<R: Net + Log + Threads>(
     (count, left)
 }
 
-/// Gives up the checks of zones that are no longer configured, and puts them after those that leave.
-fn leave(leaving: &mut Vec<Checking>, before: Vec<Secondary>) -> Result<(), OutOfMemory> {
+/// The place of a check that has ended.
+fn ended_place(leaving: &[Checking]) -> Option<usize>
+    ensures { IfSome result (λ place. place < length leaving.now) }
+{
+    leaving.iter().position(|checking| checking.has_ended())
+}
+
+/// How many checks are going on.
+fn count_checks(secondaries: &[Secondary]) -> usize {
+    secondaries
+        .iter()
+        .filter(|secondary| secondary.is_checking())
+        .count()
+}
+
+/// Gives up the checks of zones that are no longer configured, and puts them after those that leave, where there is room for them.
+fn leave(leaving: &mut Vec<Checking>, before: Vec<Secondary>) {
     for secondary in before {
         if let Some(checking) = secondary.into_checking() {
             checking.give_up();
-            leaving.push(checking)?;
+            let _ = leaving.push(checking);
         }
     }
-    Ok(())
 }
 
 impl Copies {
     /// No copy yet.
-    pub fn new(alloc: Global) -> Result<Copies, OutOfMemory> {
+    pub fn new(alloc: Global) -> Result<Copies, OutOfMemory>
+        ensures secondaries { IfOk result (λ c. c.secondaries.items ≡ []) }
+        ensures target { IfOk result (λ c. (arc_value c.target).zones.items ≡ []) }
+    {
         Ok(Copies {
             secondaries: Vec::new(alloc),
             target: target_of(alloc, &[])?,
@@ -234,7 +237,7 @@ impl Copies {
     }
 
     /// Goes on to the zones of a configuration with these summaries. A zone that was there before with its primary keeps what is
-    /// known of its copy, if that is served.
+    /// known of its copy, if that is served, and the check that is going on. Where memory runs out all stays.
     pub fn follow<R: Files + Clock>(
         &mut self,
         rt: &R,
@@ -243,51 +246,55 @@ impl Copies {
         summaries: &[ZoneSummary],
         now: u64,
     ) -> Result<(), OutOfMemory>
-        ensures { OnOk result ((arc_value self.new.target).zones.items ≡ watched_zones self.new.secondaries.items) }
+        ensures target { OnOk result ((arc_value self.new.target).zones.items ≡ watched_zones self.new.secondaries.items) }
+        ensures copies { OnOk result (Follows self.old.secondaries.items config.now.zone.items summaries.now now
+            self.new.secondaries.items) }
+        ensures kept { OnErr result (self.new.secondaries.items ≡ self.old.secondaries.items) }
+        ensures watched { OnErr result (self.new.target ≡ self.old.target) }
     {
-        let mut before = mem::replace(&mut self.secondaries, Vec::new(alloc));
-        self.secondaries = follow_all(rt, alloc, &mut before, config, summaries, now)?;
-        self.target = target_of(alloc, self.secondaries.as_slice())?;
-        leave(&mut self.leaving, before)
+        let zones = self.secondaries.as_slice();
+        let checks = count_checks(zones);
+        let secondaries = follow_all(rt, alloc, zones, config, summaries, now)?;
+        let target = target_of(alloc, secondaries.as_slice())?;
+        self.leaving.reserve(checks)?;
+        self.target = target;
+        let before = mem::replace(&mut self.secondaries, secondaries);
+        leave(&mut self.leaving, before);
+        Ok(())
     }
 
     /// Discards the copies that are obsolete. Whether there were any.
-    pub fn discard_obsolete<R: Log>(&mut self, rt: &R, now: u64) -> bool {
-        let mut discarded = false;
-        for secondary in self.secondaries.iter_mut() {
-            if secondary.discard(rt, now) {
-                discarded = true;
-            }
-        }
-        discarded
+    pub fn discard_obsolete<R: Log>(&mut self, rt: &R, now: u64) -> bool
+        ensures lost { result ≡ list_any (has_obsolete_copy now) self.old.secondaries.items }
+        ensures copies { self.new.secondaries.items ≡ map (without_obsolete_copy now) self.old.secondaries.items }
+        ensures target { self.new.target ≡ self.old.target }
+    {
+        discard_all(rt, self.secondaries.as_mut_slice(), now)
     }
 
-    /// Ends the checks of zones that are no longer configured, if they are done.
-    fn look_at_leaving<R: Threads>(&mut self, rt: &R, alloc: Global) -> Result<(), OutOfMemory> {
-        let leaving = mem::replace(&mut self.leaving, Vec::new(alloc));
-        for checking in leaving {
-            if checking.has_ended() {
-                let _ = checking.join(rt);
-            } else {
-                self.leaving.push(checking)?;
-            }
+    /// Ends a check of a zone that is no longer configured, if one is done.
+    fn end_leaving<R: Threads>(&mut self, rt: &R)
+        ensures secondaries { self.new.secondaries.items ≡ self.old.secondaries.items }
+        ensures target { self.new.target ≡ self.old.target }
+    {
+        if let Some(place) = ended_place(self.leaving.as_slice()) {
+            let checking = self.leaving.remove(place);
+            let _ = checking.join(rt);
         }
-        Ok(())
     }
 
     /// How many checks can be begun.
     fn room(&self) -> usize {
-        let mut room = MOST_CHECKS.saturating_sub(self.leaving.len());
-        for secondary in self.secondaries.iter() {
-            if secondary.is_checking() {
-                room = room.saturating_sub(1);
-            }
-        }
-        room
+        MOST_CHECKS
+            .saturating_sub(self.leaving.len())
+            .saturating_sub(count_checks(self.secondaries.as_slice()))
     }
 
     /// Begins the checks that are due, from the next one on.
-    fn begin_next<R: Net + Log + Threads>(&mut self, rt: &R, alloc: Global, now: u64) {
+    fn begin_next<R: Net + Log + Threads>(&mut self, rt: &R, alloc: Global, now: u64)
+        ensures begun { AllZip (MayBegin now) self.old.secondaries.items self.new.secondaries.items }
+        ensures target { self.new.target ≡ self.old.target }
+    {
         let room = self.room();
         let next = self.next.min(self.secondaries.len());
         let (first, last) = self.secondaries.as_mut_slice().split_at_mut(next);
@@ -306,18 +313,24 @@ impl Copies {
         rt: &R,
         alloc: Global,
         now: u64,
-    ) -> Result<bool, OutOfMemory> {
-        self.look_at_leaving(rt, alloc)?;
+    ) -> Result<bool, OutOfMemory>
+        ensures looked { IfOk result (Looks now self.old.secondaries.items self.new.secondaries.items) }
+        ensures kept { OnErr result (self.new.secondaries.items ≡ self.old.secondaries.items) }
+        ensures target { self.new.target ≡ self.old.target }
+    {
+        self.end_leaving(rt);
         let changed = look_at_all(rt, alloc, self.secondaries.as_mut_slice(), now);
         self.begin_next(rt, alloc, now);
         Ok(changed)
     }
 
     /// What is said of each copy.
-    pub fn report(&self, alloc: Global) -> Result<String, AllocError> {
+    pub fn report(&self, alloc: Global) -> Result<String, AllocError>
+        ensures { IfOk result (λ text. Reports self.now.secondaries.items (string_bytes text)) }
+    {
         let mut text = String::new(alloc);
-        for secondary in self.secondaries.iter() {
-            secondary.push_line(&mut text)?;
+        'each: for secondary in self.secondaries.iter() {
+            secondary.push_line(alloc, &mut text)?;
         }
         Ok(text)
     }

@@ -26,17 +26,23 @@
 //! - The copy of a zone is distinguished from others by its name and by the address and port of its primary (`is_of`).
 //! - What comes of a check is offered to the copy: a zone that came replaces it only if its serial is newer and its file is
 //!   written; else what is held stays (`take`).
-//! - The copy that is held is the one that is served (`follow`). It stays with what is known of it.
+//! - The copy that is held is the one that is served (`Follows`). It stays with what is known of it. Where memory runs out the
+//!   zones, their copies and the target stay as they were.
+//! - A look changes a copy only by a NOTIFY, by what came of a check, by EXPIRE, or by the begin of a check that is due. It says
+//!   whether another copy, or none, is served from now on (`Looks`).
+//! - What is said of each copy is its zone and its serial (`Reports`).
 //! - The target of NOTIFY has the zones and the primaries of all secondaries.
 //! - Which check is due when, and when a copy is discarded, is proved of `ZoneCopy` of dns_secondary. What comes of the
 //!   messages of a transfer is proved of dns_incoming.
 //!
 //! # What a body could still get away with
 //!
-//! No clause says what sockets, files and threads give. That a check is begun if one is due is a test's matter
-//! (`tools/zoned`, `tools/interop/zoned`).
+//! No clause says what sockets, files and threads give, nor how the address of a primary is written. That a check is begun if
+//! one is due, and that one goes on where another configuration is followed, is a test's matter (`tools/zoned`,
+//! `tools/interop/zoned`).
 #![tactic(auto)]
 
+mod before;
 mod check;
 mod checking;
 mod copies;

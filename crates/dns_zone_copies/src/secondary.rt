@@ -4,8 +4,9 @@ ghost use Rattle.std.specs.Prelude.{◌≡◌, ◌&&◌, true, IfOk, OnErr, OnOk
 ghost use Rattle.std.specs.Bool.{OnFalse, OnTrue};
 ghost use Rattle.std.specs.Str.{bytes_eq};
 ghost use Rattle.dns_name.specs.Canonical.{same_name};
-ghost use Rattle.dns_secondary.specs.Copies.{is_newer, is_obsolete, without_obsolete, woken};
+ghost use Rattle.dns_secondary.specs.Copies.{checking, is_newer, is_obsolete, without_obsolete, woken};
 ghost use Rattle.dns_socket_addr.specs.SocketAddresses.{same_socket_addr};
+ghost use Rattle.dns_zone_copies.specs.Looking.{LooksAt, MayBeOffered, MayBeWoken, MayBegin};
 ghost use Rattle.dns_zone_copies.specs.Secondaries.{Takes, begun, copy_followed, followed, is_entry_of, is_held, lacks_copy, passed_over, same_timers, with_offer};
 
 use crate::check::{Check, Checked};
@@ -26,6 +27,8 @@ use std::sync::Arc;
 use std::sync::atomic::{AtomicBool, Ordering};
 use std::thread::Threads;
 
+mod line;
+
 /// How long a check may take, in seconds.
 const LONGEST_CHECK: u64 = 600;
 
@@ -38,7 +41,8 @@ pub struct Secondary {
     copy: ZoneCopy,
     /// Set by each NOTIFY of the zone, until it is looked at.
     mark: Arc<AtomicBool>,
-    checking: Option<Checking>,
+    /// The check that is going on. It is shared while another configuration is followed.
+    checking: Option<Arc<Checking>>,
 }
 
 impl Model for Secondary {
@@ -77,6 +81,22 @@ fn same_timers(one: SoaTimers, other: SoaTimers) -> bool
         && one.expire == other.expire
 }
 
+/// A check, shared once more.
+fn shared(checking: &Option<Arc<Checking>>) -> Result<Option<Arc<Checking>>, OutOfMemory> {
+    match checking {
+        Some(checking) => Ok(Some(Arc::try_clone(checking)?)),
+        None => Ok(None),
+    }
+}
+
+/// A check that is shared no more.
+fn unshared(checking: Option<Arc<Checking>>) -> Option<Checking> {
+    match checking {
+        Some(checking) => Arc::into_inner(checking),
+        None => None,
+    }
+}
+
 impl Secondary {
     /// The secondary of an entry that has this primary. It begins with the copy that is served, which was current at a moment.
     pub(crate) fn new(
@@ -96,6 +116,21 @@ impl Secondary {
             copy: ZoneCopy::new(primary.ip, served, current),
             mark: Arc::new(alloc, AtomicBool::new(false))?,
             checking: None,
+        })
+    }
+
+    /// The same zone with its copy, its check and its mark, which are shared.
+    pub(crate) fn again(&self, alloc: Global) -> Result<Secondary, OutOfMemory>
+        ensures { IfOk result (λ s. s ≡ self.now) }
+    {
+        let file = String::from_str(alloc, self.file.as_str())?;
+        Ok(Secondary {
+            apex: self.apex.try_clone(alloc)?,
+            primary: self.primary,
+            file,
+            copy: self.copy,
+            mark: Arc::try_clone(&self.mark)?,
+            checking: shared(&self.checking)?,
         })
     }
 
@@ -150,9 +185,9 @@ impl Secondary {
         })
     }
 
-    /// The check that is going on, which is no longer of this zone.
+    /// The check that is going on, unless it is shared with one that goes on with the zone.
     pub(crate) fn into_checking(self) -> Option<Checking> {
-        self.checking
+        unshared(self.checking)
     }
 
     /// Wakes the check of the copy.
@@ -164,7 +199,9 @@ impl Secondary {
     }
 
     /// Wakes the check of the copy, if a NOTIFY came since this was asked last.
-    fn wake_marked<R: Log>(&mut self, rt: &R) {
+    fn wake_marked<R: Log>(&mut self, rt: &R)
+        ensures { MayBeWoken self.old self.new }
+    {
         if self.mark.swap(false, Ordering::SeqCst) {
             self.wake(rt);
         }
@@ -204,27 +241,6 @@ impl Secondary {
         self.file = String::from_str(alloc, entry.file.as_str())?;
         self.follow_copy(served, current, now);
         Ok(())
-    }
-
-    /// Appends what is said of the copy.
-    pub(crate) fn push_line(&self, text: &mut String) -> Result<(), AllocError> {
-        let apex = &self.apex;
-        let primary = SocketAddrText(self.primary);
-        let checked = if self.checking.is_some() {
-            ", which is asked now"
-        } else {
-            ""
-        };
-        match self.copy.held() {
-            Some(timers) => {
-                let serial = timers.serial.into_int();
-                writeln!(
-                    text,
-                    "secondary {apex} of {primary}{checked}, serial {serial}"
-                )
-            }
-            None => writeln!(text, "secondary {apex} of {primary}{checked}, no copy"),
-        }
     }
 
     /// Whether the file of a copy that came was written. What keeps it from that is logged.
@@ -312,7 +328,7 @@ impl Secondary {
             None => false,
         };
         if ended {
-            return self.checking.take();
+            return unshared(self.checking.take());
         }
         None
     }
@@ -323,7 +339,9 @@ impl Secondary {
         rt: &R,
         alloc: Global,
         now: u64,
-    ) -> bool {
+    ) -> bool
+        ensures { MayBeOffered now self.old self.new result }
+    {
         match self.take_check() {
             Some(checking) => {
                 let checked = checking.join(rt);
@@ -334,7 +352,9 @@ impl Secondary {
     }
 
     /// Begins a check.
-    fn begin<R: Net + Threads>(&mut self, rt: &R, alloc: Global, now: u64) -> anyhow::Result<()> {
+    fn begin<R: Net + Threads>(&mut self, rt: &R, alloc: Global, now: u64) -> anyhow::Result<()>
+        ensures { self.new ≡ record self.old { copy = checking self.old.copy now } }
+    {
         self.copy.begin(now);
         let check = Check {
             apex: self.apex.try_clone(alloc)?,
@@ -365,14 +385,16 @@ impl Secondary {
         rt: &R,
         alloc: Global,
         now: u64,
-    ) -> bool {
-        let is_due = self.checking.is_none() && self.copy.is_due(now);
-        if is_due {
-            if let Err(fault) = self.begin(rt, alloc, now) {
-                error!(rt; "{}: {fault:#}", self.apex);
-            }
+    ) -> bool
+        ensures { MayBegin now self.old self.new }
+    {
+        if self.checking.is_some() || !self.copy.is_due(now) {
+            return false;
         }
-        is_due && self.checking.is_some()
+        if let Err(fault) = self.begin(rt, alloc, now) {
+            error!(rt; "{}: {fault:#}", self.apex);
+        }
+        self.checking.is_some()
     }
 
     /// Takes what came of a NOTIFY and of a check, discards an obsolete copy, and gives a check up that takes too long. Whether
@@ -382,7 +404,9 @@ impl Secondary {
         rt: &R,
         alloc: Global,
         now: u64,
-    ) -> bool {
+    ) -> bool
+        ensures { LooksAt now self.old self.new result }
+    {
         self.wake_marked(rt);
         let came = self.take_ended(rt, alloc, now);
         let went = self.discard(rt, now);
