@@ -14,10 +14,13 @@ abbrev pub copy_text : Option SoaTimers → List ℕ
 copy_text None = codes ", no copy"
 copy_text (Some t) = codes ", serial " ++ decimal t.serial.0
 
--- the line of a secondary whose primary's address is written so
+-- its zone, and its primary, whose address is written so
+abbrev pub zone_text : SecondaryState → List ℕ → Bool → List ℕ
+zone_text s primary asked = codes "secondary " ++ name_text s.apex ++ codes " of " ++ primary ++ check_text asked
+
+-- the line of a secondary
 abbrev pub line_text : SecondaryState → List ℕ → Bool → List ℕ
-line_text s primary asked =
-    codes "secondary " ++ name_text s.apex ++ codes " of " ++ primary ++ check_text asked ++ copy_text s.copy.held ++ 10 ∷ []
+line_text s primary asked = zone_text s primary asked ++ copy_text s.copy.held ++ 10 ∷ []
 
 -- a line of a secondary is after others
 pub record AddsLine (s : SecondaryState) (old new : List ℕ) : Type 0 where

@@ -110,8 +110,9 @@ fn follow_all<R: Files + Clock>(
     let mut before = Before::new(zones);
     let mut left = summaries;
     'each: for entry in config.zone.iter() {
-        let [summary, later @ ..] = left else {
-            return Ok(secondaries);
+        let (summary, later) = match left.split_first() {
+            Some(both) => both,
+            None => return Ok(secondaries),
         };
         let secondary = secondary_of(rt, alloc, &mut before, entry, summary, now)?;
         put(&mut secondaries, secondary)?;
@@ -181,6 +182,27 @@ fn begin_checks<R: Net + Log + Threads>(
         }
     }
     (count, left)
+}
+
+/// Begins checks that are due, from a place on and then from the first, while there is room for them. The place of the next one.
+fn begin_from<R: Net + Log + Threads>(
+    rt: &R,
+    alloc: Global,
+    secondaries: &mut [Secondary],
+    place: usize,
+    room: usize,
+    now: u64,
+) -> usize
+    ensures { AllZip (MayBegin now) secondaries.old secondaries.new }
+{
+    let place = place.min(secondaries.len());
+    let (first, last) = secondaries.split_at_mut(place);
+    let (count, left) = begin_checks(rt, alloc, last, room, now);
+    if left == 0 {
+        return place.saturating_add(count);
+    }
+    let (count, _) = begin_checks(rt, alloc, first, left, now);
+    count
 }
 
 /// The place of a check that has ended.
@@ -296,14 +318,8 @@ impl Copies {
         ensures target { self.new.target ≡ self.old.target }
     {
         let room = self.room();
-        let next = self.next.min(self.secondaries.len());
-        let (first, last) = self.secondaries.as_mut_slice().split_at_mut(next);
-        let (count, left) = begin_checks(rt, alloc, last, room, now);
-        self.next = next.saturating_add(count);
-        if left > 0 {
-            let (count, _) = begin_checks(rt, alloc, first, left, now);
-            self.next = count;
-        }
+        let secondaries = self.secondaries.as_mut_slice();
+        self.next = begin_from(rt, alloc, secondaries, self.next, room, now);
     }
 
     /// Looks at each copy, and begins the checks that are due, as many as may go on at once. Whether another copy, or none, is
