@@ -19,13 +19,14 @@ module _ (secondaries : List SecondaryState) (es : List ZoneEntry) where
     Makes entries left there =
         (rest : List ZoneSummary) → AreWithout secondaries entries left rest → AreWithout secondaries es zs (there ++ rest)
 
-    pub makes_more : (i : ℕ) (e : ZoneEntry) (z : ZoneSummary) (left later : List ZoneSummary) (near : List SecondaryState) (o : ZoneSummary) (there : List ZoneSummary) → i < length es → e ≡ get_or es i e → left ≡ z ∷ later → AreNear secondaries e near → o ≡ (if lacks e near then without_data else z) → Makes (drop i es) left there → Makes (drop (i + 1) es) later (there ++ o ∷ [])
-    makes_more i e z left later near o there lt is left_is its o_is makes = λ rest h.
+    pub makes_more : (i : ℕ) (e : ZoneEntry) (z : ZoneSummary) (left later : List ZoneSummary) (near : List SecondaryState) (o : ZoneSummary) (there more : List ZoneSummary) → i < length es → e ≡ get_or es i e → left ≡ z ∷ later → AreNear secondaries e near → o ≡ (if lacks e near then without_data else z) → more ≡ there ++ o ∷ [] → Makes (drop i es) left there → Makes (drop (i + 1) es) later more
+    makes_more i e z left later near o there more lt is left_is its o_is more_is makes = λ rest h.
         let behind : List ZoneEntry = drop (i + 1) es in
         let one : AreWithout secondaries (e ∷ behind) (z ∷ later) (o ∷ rest) = (near, its, o_is, h) in
         let here : AreWithout secondaries (e ∷ behind) left (o ∷ rest) = subst (λ (x : List ZoneSummary). AreWithout secondaries (e ∷ behind) x (o ∷ rest)) (sym left_is) one in
         let all : AreWithout secondaries (drop i es) left (o ∷ rest) = subst (λ (x : List ZoneEntry). AreWithout secondaries x left (o ∷ rest)) (sym (rest_from i e lt is)) here in
-        subst (λ (x : List ZoneSummary). AreWithout secondaries es zs x) (sym (append_assoc there (o ∷ []) rest)) (makes (o ∷ rest) all)
+        let same : there ++ o ∷ rest ≡ more ++ rest = sym (ap (λ (x : List ZoneSummary). x ++ rest) more_is ∙ append_assoc there (o ∷ []) rest) in
+        subst (λ (x : List ZoneSummary). AreWithout secondaries es zs x) same (makes (o ∷ rest) all)
 
     ended : (there : List ZoneSummary) → AreWithout secondaries es zs (there ++ []) → AreWithout secondaries es zs there
     ended there h = subst (λ (x : List ZoneSummary). AreWithout secondaries es zs x) (append-nil there) h

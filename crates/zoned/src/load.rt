@@ -133,8 +133,9 @@ pub(crate) fn summaries_without(
     let mut place = 0usize;
     let mut left = summaries;
     'each: for entry in config.zone.iter() {
-        let [summary, later @ ..] = left else {
-            return Ok(others);
+        let (summary, later) = match left.split_first() {
+            Some(both) => both,
+            None => return Ok(others),
         };
         let its = near(secondaries, place, entry);
         others.push(summary_without(its, entry, summary))?;
