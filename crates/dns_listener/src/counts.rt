@@ -1,5 +1,9 @@
 //! What is counted while the server runs, and its lines.
 
+ghost use Rattle.std.specs.Prelude.{◌≡◌, ◌++◌, IfOk, OnOk, map, string_bytes};
+ghost use Rattle.std.specs.Arc.{arc_value};
+ghost use Rattle.dns_listener.specs.Counting.{Reports, code_names, code_of, other_lines, reply_line, reply_lines};
+
 use crate::layers::Tally;
 use dns_base::Rcode;
 use dns_name::OutOfMemory;
@@ -47,7 +51,9 @@ pub struct Numbers {
 }
 
 /// How many replies had a response code, which has this name.
-fn reply_numbers(counts: &ReplyCounts, code: &'static str, number: Rcode) -> ReplyNumbers {
+fn reply_numbers(counts: &ReplyCounts, code: &'static str, number: Rcode) -> ReplyNumbers
+    ensures { result.code.now ≡ code.now }
+{
     ReplyNumbers {
         code,
         udp: counts.number(false, number),
@@ -72,7 +78,9 @@ fn others(counts: &ReplyCounts, is_stream: bool) -> u64 {
 }
 
 /// How many replies had each response code that is counted, by the four bits of the header, and how many had another one.
-fn all_replies(counts: &ReplyCounts) -> [ReplyNumbers; 8] {
+fn all_replies(counts: &ReplyCounts) -> [ReplyNumbers; 8]
+    ensures { map code_of result ≡ code_names }
+{
     [
         reply_numbers(counts, "NOERROR", Rcode::NOERROR),
         reply_numbers(counts, "FORMERR", Rcode::FORMERR),
@@ -87,6 +95,40 @@ fn all_replies(counts: &ReplyCounts) -> [ReplyNumbers; 8] {
             tcp: others(counts, true),
         },
     ]
+}
+
+/// Appends the line of a response code.
+fn push_reply(text: &mut String, reply: &ReplyNumbers) -> Result<(), AllocError>
+    ensures { OnOk result (string_bytes text.new ≡ string_bytes text.old ++ reply_line reply.now) }
+{
+    let ReplyNumbers { code, udp, tcp } = *reply;
+    writeln!(text, "replies {code} {udp} over UDP, {tcp} over TCP")
+}
+
+/// Appends a line for each response code.
+fn push_replies(text: &mut String, replies: &[ReplyNumbers]) -> Result<(), AllocError>
+    ensures { OnOk result (string_bytes text.new ≡ string_bytes text.old ++ reply_lines replies.now) }
+{
+    'each: for reply in replies {
+        push_reply(text, reply)?;
+    }
+    Ok(())
+}
+
+/// Appends a line for each other count.
+fn push_others(text: &mut String, numbers: &Numbers) -> Result<(), AllocError>
+    ensures { OnOk result (string_bytes text.new ≡ string_bytes text.old ++ other_lines numbers.now) }
+{
+    let Numbers {
+        connections,
+        dropped,
+        begun,
+        refused,
+        ..
+    } = *numbers;
+    writeln!(text, "connections {connections} accepted")?;
+    writeln!(text, "responses {dropped} dropped")?;
+    writeln!(text, "transfers {begun} begun, {refused} refused")
 }
 
 /// Logs what became of a question for a transfer.
@@ -115,12 +157,17 @@ impl Counters {
     }
 
     /// What counts at the sockets.
-    pub fn queries(&self) -> &Arc<QueryCounts> {
+    pub fn queries(&self) -> &Arc<QueryCounts>
+        ensures { result.now ≡ self.now.queries }
+    {
         &self.queries
     }
 
     /// What counts the replies of a listener.
-    pub fn tally(&self) -> Result<Tally, OutOfMemory> {
+    pub fn tally(&self) -> Result<Tally, OutOfMemory>
+        ensures counts { IfOk result (λ t. arc_value t.counts ≡ arc_value self.now.replies) }
+        ensures notes { IfOk result (λ t. arc_value t.notes ≡ arc_value self.now.notes) }
+    {
         Ok(Tally {
             counts: Arc::try_clone(&self.replies)?,
             notes: Arc::try_clone(&self.notes)?,
@@ -138,7 +185,9 @@ impl Counters {
     }
 
     /// What was counted so far.
-    pub fn numbers(&self) -> Numbers {
+    pub fn numbers(&self) -> Numbers
+        ensures { map code_of result.replies ≡ code_names }
+    {
         Numbers {
             replies: all_replies(&self.replies),
             connections: self.queries.connections(),
@@ -149,23 +198,13 @@ impl Counters {
     }
 
     /// A line for each count.
-    pub fn report(&self, alloc: Global) -> Result<String, AllocError> {
+    pub fn report(&self, alloc: Global) -> Result<String, AllocError>
+        ensures { IfOk result (λ text. Reports (string_bytes text)) }
+    {
         let numbers = self.numbers();
         let mut text = String::new(alloc);
-        for reply in numbers.replies.iter() {
-            let ReplyNumbers { code, udp, tcp } = *reply;
-            writeln!(text, "replies {code} {udp} over UDP, {tcp} over TCP")?;
-        }
-        let Numbers {
-            connections,
-            dropped,
-            begun,
-            refused,
-            ..
-        } = numbers;
-        writeln!(text, "connections {connections} accepted")?;
-        writeln!(text, "responses {dropped} dropped")?;
-        writeln!(text, "transfers {begun} begun, {refused} refused")?;
+        push_replies(&mut text, &numbers.replies)?;
+        push_others(&mut text, &numbers)?;
         Ok(text)
     }
 }

@@ -2,6 +2,7 @@
 
 ghost use Rattle.std.specs.Prelude.{◌≡◌, unwrap_or};
 ghost use Rattle.std.specs.Arc.{arc_value};
+ghost use Rattle.dns_listener.specs.Listeners.{GivesBack};
 
 use crate::listener::Listener;
 use crate::place::{Place, serve_at};
@@ -55,6 +56,7 @@ where
     S::Future: Send,
     S::Stream: Send,
     requires { S.can_call service }
+    ensures { GivesBack place.listener result.0 }
 {
     let service = CountingSvc::new(service, counts);
     serve_at(rt, alloc, place, WithoutMeta { service })
@@ -69,6 +71,7 @@ where
     S::Future: Send,
     S::Stream: Send,
     requires { S.can_call service }
+    ensures { GivesBack place.listener result.0 }
 {
     let Tally { counts, notes } = tally;
     serve_counted(rt, alloc, place, counts, NotingSvc::new(rt, service, notes))
@@ -83,6 +86,7 @@ where
     S::Future: Send,
     S::Stream: Send,
     requires { S.can_call service }
+    ensures { GivesBack place.listener result.0 }
 {
     serve_noted(rt, alloc, place, tally, ClassicUdpSize::new(service))
 }
@@ -103,6 +107,7 @@ where
     S::Future: Send,
     S::Stream: Send,
     requires { S.can_call service }
+    ensures { GivesBack place.listener result.0 }
 {
     serve_sized(rt, alloc, place, tally, OwnOptSvc::new(service, size))
 }
@@ -124,6 +129,7 @@ where
     S::Future: Send,
     S::Stream: Send,
     requires { S.can_call service }
+    ensures { GivesBack place.listener result.0 }
 {
     serve_stating(rt, alloc, place, tally, NsidSvc::new(service, nsid), size)
 }
@@ -145,6 +151,7 @@ where
     S::Future: Send,
     S::Stream: Send,
     requires { S.can_call service }
+    ensures { GivesBack place.listener result.0 }
 {
     let service = ServerCookieSvc::new(service, settings.cookies);
     serve_identified(rt, alloc, place, tally, service, udp_size(settings), nsid)
@@ -170,6 +177,7 @@ where
     S::Stream: Send,
     N::Future: Send,
     requires { S.can_call service }
+    ensures { GivesBack place.listener result.0 }
 {
     match wrap(alloc, settings, service, target) {
         Ok(wrapped) => serve_with_cookies(rt, alloc, place, tally, settings, nsid, wrapped),
@@ -197,6 +205,7 @@ where
     S::Stream: Send,
     N::Future: Send,
     requires { ⟦<Withholding<S> as Service<()>>⟧.can_call (arc_value service) }
+    ensures { GivesBack place.listener result.0 }
 {
     serve_wrapped(rt, alloc, place, tally, settings, nsid, service, target)
 }

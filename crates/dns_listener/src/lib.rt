@@ -20,12 +20,17 @@
 //!
 //! - Each function is safe, and returns except for those that wait. What each layer makes of replies is proved in its crate.
 //! - How many octets the server takes over UDP is what the settings say, and else 1,232.
+//! - A listener that can't be started is given back with its address and as many workers (`StartsAt`). So is each that serves, in
+//!   their order (`take_back`).
+//! - `close_all` shuts each down. `has_ended` says whether the book of one was closed (`met_closed`).
+//! - What is said of counts are the numbers of a moment, each after its name (`Reports`).
 //!
 //! # What a body could still get away with
 //!
 //! That the layers stand in this order is code (`layers.rt`), and no clause. No clause says what sockets and threads give.
 #![tactic(auto)]
 
+mod closing;
 mod counts;
 mod layers;
 mod listener;
@@ -33,8 +38,9 @@ mod offer;
 mod place;
 mod running;
 
+pub use closing::{close_all, has_ended, take_back};
 pub use counts::{Counters, Numbers, ReplyNumbers};
 pub use layers::Tally;
 pub use listener::{Listener, bind_all, say_listeners};
 pub use offer::{Offer, ZoneService};
-pub use running::{Running, Started, close_all, has_ended, take_back};
+pub use running::{Running, Started};

@@ -1,7 +1,8 @@
 //! A listener and a seat at the book of its slots.
 
-ghost use Rattle.std.specs.Prelude.{◌≡◌};
+ghost use Rattle.std.specs.Prelude.{◌≡◌, length};
 ghost use Rattle.std.specs.Arc.{arc_value};
+ghost use Rattle.dns_listener.specs.Listeners.{GivesBack};
 
 use crate::listener::Listener;
 use dns_book::{Book, BookSeat};
@@ -28,7 +29,10 @@ pub(crate) struct Place<R> {
 
 impl<R: Wait + Copy> Place<R> {
     /// Shuts the book down because memory ran out.
-    pub(crate) fn give_up(self, rt: R) -> (Listener<R>, HostEnd) {
+    pub(crate) fn give_up(self, rt: R) -> (Listener<R>, HostEnd)
+        ensures listener { result.0 ≡ self.listener }
+        ensures end { result.1 ≡ HostEnd.OutOfMemory }
+    {
         let Place {
             listener,
             book,
@@ -62,6 +66,7 @@ where
     W::Stream: Send,
     requires book { seat.book ≡ arc_value book.now }
     requires can_call { W.can_call (arc_value service.now) }
+    ensures { length host.new.workers.items ≡ length host.old.workers.items }
 {
     let accept_context = AcceptContext {
         serve_context: ServeContext {
@@ -99,6 +104,7 @@ where
     W::Stream: Send,
     requires book { seat.book ≡ arc_value book.now }
     requires can_call { W.can_call service }
+    ensures { length host.new.workers.items ≡ length host.old.workers.items }
 {
     match Arc::new(alloc, service) {
         Ok(shared) => serve_shared(rt, alloc, &shared, clock, book, seat, host),
@@ -131,6 +137,7 @@ where
     W::Future: Send,
     W::Stream: Send,
     requires { W.can_call service }
+    ensures { GivesBack place.listener result.0 }
 {
     let Place {
         listener,

@@ -1,7 +1,9 @@
 //! A listener that serves in a thread of its own.
 
-ghost use Rattle.std.specs.Prelude.{◌≡◌, ◌≢◌, IfOk, IsSome};
+ghost use Rattle.std.specs.Prelude.{◌≡◌, IfOk};
 ghost use Rattle.std.specs.Arc.{arc_value};
+ghost use Rattle.dns_book.specs.Causes.{HasShutdown};
+ghost use Rattle.dns_listener.specs.Listeners.{GivesBack};
 
 use crate::layers::serve_zones;
 use crate::listener::Listener;
@@ -9,14 +11,12 @@ use crate::offer::Offer;
 use crate::place::Place;
 use dns_book::{Book, BookSeat, BookState};
 use dns_middleware::{Notifiable, Settings};
-use dns_name::OutOfMemory;
-use dns_socket_addr::SocketAddrText;
+use dns_name::{OutOfMemory, SocketAddr};
 use dns_workers::HostEnd;
-use log::{Log, error};
 use std::alloc::Global;
 use std::rt::Clock;
 use std::sync::{Arc, Wait};
-use std::thread::{self, JoinHandle, Threads};
+use std::thread::{self, Promise, PromisedHandle, Threads};
 
 /// A book of the configurations of the settings, and its seat.
 fn open_book(alloc: Global, settings: &Settings) -> Result<(Arc<Book>, BookSeat), OutOfMemory>
@@ -60,7 +60,9 @@ where
     N::Future: Send,
 {
     /// Serves until the book is shut down.
-    fn serve(self, rt: R, alloc: Global) -> (Listener<R>, HostEnd) {
+    fn serve(self, rt: R, alloc: Global) -> (Listener<R>, HostEnd)
+        ensures { GivesBack self.place.listener result.0 }
+    {
         let Post { place, offer } = self;
         let Offer {
             settings,
@@ -73,10 +75,23 @@ where
     }
 }
 
+/// That a thread gives the listener back at which it serves: one with this address, and so many workers.
+#[derive(Clone, Copy)]
+pub(crate) struct ListenerPromise {
+    address: SocketAddr,
+    workers: usize,
+}
+
+impl<R> Promise<(Listener<R>, HostEnd)> for ListenerPromise {
+    ghost use Rattle.std.specs.Prelude.{◌≡◌, length};
+
+    ghost kept_by = { λ p r. (r.0.address ≡ p.address) × (length r.0.workers.items ≡ p.workers) };
+}
+
 /// A listener that serves in a thread, which gives it back; and another seat at its book, from which it is shut down.
 #[derive(Drop)]
 pub struct Running<R> {
-    thread: JoinHandle<(Listener<R>, HostEnd)>,
+    thread: PromisedHandle<(Listener<R>, HostEnd), ListenerPromise>,
     book: Arc<Book>,
     seat: BookSeat,
     ghost at_book: { seat.book ≡ arc_value book },
@@ -92,6 +107,8 @@ pub enum Started<R> {
 }
 
 impl<R: Clock + Threads + Wait + Copy + Send + Sync + 'static> Running<R> {
+    ghost use Rattle.dns_listener.specs.RunningListeners.{StartsAt};
+
     /// Starts a thread in which a listener serves.
     pub fn start<N: Notifiable + Send + Sync + 'static>(
         rt: R,
@@ -101,6 +118,7 @@ impl<R: Clock + Threads + Wait + Copy + Send + Sync + 'static> Running<R> {
     ) -> Started<R>
     where
         N::Future: Send,
+        ensures { StartsAt listener result }
     {
         match open_twice(&rt, alloc, &offer.settings) {
             Ok((mine, (book, seat))) => {
@@ -125,9 +143,14 @@ impl<R: Clock + Threads + Wait + Copy + Send + Sync + 'static> Running<R> {
     where
         N::Future: Send,
         requires { mine.1.book ≡ arc_value mine.0 }
+        ensures { StartsAt post.place.listener result }
     {
         let (book, mut seat) = mine;
-        match thread::spawn(&rt, move || post.serve(rt, alloc)) {
+        let promise = ListenerPromise {
+            address: post.place.listener.address,
+            workers: post.place.listener.workers.len(),
+        };
+        match thread::spawn_with(&rt, promise, move || post.serve(rt, alloc)) {
             Ok(thread) => Started::Running(Running { thread, book, seat }),
             Err(refused) => {
                 let _ = book.shutdown(&rt, &mut seat);
@@ -140,65 +163,27 @@ impl<R: Clock + Threads + Wait + Copy + Send + Sync + 'static> Running<R> {
 }
 
 impl<R> Running<R> {
+    ghost use Rattle.dns_listener.specs.RunningListeners.{IsOf, met_closed};
+
     /// Whether it was shut down or has ended.
-    pub(crate) fn is_closed<W: Wait>(&mut self, rt: &W) -> bool {
+    pub(crate) fn is_closed<W: Wait>(&mut self, rt: &W) -> bool
+        ensures { result ≡ met_closed self.new }
+    {
         self.book.look(rt, &mut self.seat).closed
     }
 
     /// Shuts it down: it takes nothing more, and flushes its connections.
-    pub(crate) fn close<W: Wait>(&mut self, rt: &W) {
+    pub(crate) fn close<W: Wait>(&mut self, rt: &W)
+        ensures { HasShutdown self.new.seat.known.seen }
+    {
         let _ = self.book.shutdown(rt, &mut self.seat);
     }
 
     /// The listener, and how it was served. Its end is waited for.
-    pub(crate) fn join<T: Threads>(self, rt: &T) -> (Listener<R>, HostEnd) {
+    pub(crate) fn join<T: Threads>(self, rt: &T) -> (Listener<R>, HostEnd)
+        ensures { IsOf self result.0 }
+    {
         let Running { thread, .. } = self;
         thread.join(rt)
     }
-}
-
-/// Whether a listener was shut down or has ended by itself.
-pub fn has_ended<R: Wait>(rt: &R, running: &mut [Running<R>]) -> bool {
-    for one in running {
-        if one.is_closed(rt) {
-            return true;
-        }
-    }
-    false
-}
-
-/// Shuts each listener down.
-pub fn close_all<R: Wait>(rt: &R, running: &mut [Running<R>]) {
-    for one in running {
-        one.close(rt);
-    }
-}
-
-/// Why a listener ended by itself, in words.
-fn fault_text(end: HostEnd) -> Option<&'static str>
-    ensures none { end ≡ HostEnd.Done → result ≡ None }
-    ensures some { end ≢ HostEnd.Done → IsSome result }
-{
-    match end {
-        HostEnd::Done => None,
-        HostEnd::HostFault => Some("an accept, a thread, a receive or a send failed"),
-        HostEnd::OutOfMemory => Some("out of memory"),
-    }
-}
-
-/// Takes the listeners back, each once it has ended.
-pub fn take_back<R: Threads + Log + Drop>(
-    rt: &R,
-    alloc: Global,
-    running: Vec<Running<R>>,
-) -> Result<Vec<Listener<R>>, OutOfMemory> {
-    let mut listeners = Vec::new(alloc);
-    for one in running {
-        let (listener, end) = one.join(rt);
-        if let Some(fault) = fault_text(end) {
-            error!(rt; "{}: {fault}", SocketAddrText(listener.address));
-        }
-        listeners.push(listener)?;
-    }
-    Ok(listeners)
 }
