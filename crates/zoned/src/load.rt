@@ -1,10 +1,11 @@
 //! Zones that are read of files.
 
-ghost use Rattle.std.specs.Prelude.{◌≡◌, true, OnOk, if◌then◌else◌, string_bytes};
+ghost use Rattle.std.specs.Prelude.{◌≡◌, ◌↔◌, false, true, IfOk, IsOk, OnErr, OnOk, if◌then◌else◌, map, string_bytes};
 ghost use Rattle.std.specs.List.{list_any};
-ghost use Rattle.dns_generation.specs.Generations.{with_withheld};
+ghost use Rattle.dns_generation.specs.Generations.{AddsFile, network_of, with_withheld};
 ghost use Rattle.dns_zone_copies.specs.Secondaries.{lacks_copy};
-ghost use Rattle.zoned.specs.Zones.{is_entry_named, without_data};
+ghost use Rattle.zoned.specs.Loading.{AreNear, AreWithout, CopyIsRead, EntryIsRead, FileIsRead, ReadsAll, networks_of, no_zones};
+ghost use Rattle.zoned.specs.Zones.{is_entry_named, stands_twice, without_data};
 
 use crate::configuration::load_config;
 use anyhow::{Context, bail};
@@ -18,23 +19,37 @@ use std::alloc::{AllocError, Global};
 use std::fmt::Write;
 use std::{fs, slice};
 
-/// Reads and judges the zone of one file, and puts it after the others.
-fn load_zone(
-    rt: &HostRuntime,
+/// Judges the text of a zone's file, and puts the zone after the others. It is transferred to its own networks, or to those for
+/// all.
+fn add_zone(
+    alloc: Global,
     generation: &mut Generation,
     entry: &ZoneEntry,
-) -> anyhow::Result<()> {
+    text: &[u8],
+) -> anyhow::Result<()>
+    ensures ok { OnOk result (AddsFile entry.now.name.name text.now
+        (networks_of entry.now.allow_transfer generation.old.authority.allowed) generation.old generation.new) }
+    ensures err { OnErr result (generation.new ≡ generation.old) }
+{
+    let apex = &entry.name.name;
+    match &entry.allow_transfer {
+        Some(prefixes) => {
+            let allowed = networks(alloc, prefixes.as_slice())?;
+            generation.add_for(alloc, apex, text, allowed)?;
+        }
+        None => generation.add(alloc, apex, text)?,
+    }
+    Ok(())
+}
+
+/// Reads and judges the zone of one file, and puts it after the others.
+fn load_zone(rt: &HostRuntime, generation: &mut Generation, entry: &ZoneEntry) -> anyhow::Result<()>
+    ensures ok { OnOk result (FileIsRead entry.now generation.old generation.new) }
+    ensures err { OnErr result (generation.new ≡ generation.old) }
+{
     let file = entry.file.as_str();
     let text = fs::read(rt, file).context(format_args!("{file}"))?;
-    let apex = &entry.name.name;
-    let added = match &entry.allow_transfer {
-        Some(prefixes) => {
-            let allowed = networks(rt.alloc(), prefixes.as_slice())?;
-            generation.add_for(rt.alloc(), apex, text.as_slice(), allowed)
-        }
-        None => generation.add(rt.alloc(), apex, text.as_slice()),
-    };
-    added.context(format_args!("{file}"))
+    add_zone(rt.alloc(), generation, entry, text.as_slice()).context(format_args!("{file}"))
 }
 
 /// Whether a zone stands among some.
@@ -47,22 +62,35 @@ fn stands_among(entries: &[ZoneEntry], entry: &ZoneEntry) -> bool
 }
 
 /// Refuses a configuration in which a zone stands twice.
-pub(crate) fn refuse_twice(config: &Config) -> anyhow::Result<()> {
-    let entries = config.zone.as_slice();
-    for (place, entry) in entries.iter().enumerate() {
-        if stands_among(&entries[..place.min(entries.len())], entry) {
+pub(crate) fn refuse_twice(config: &Config) -> anyhow::Result<()>
+    ensures { IsOk result ↔ (stands_twice config.now.zone.items ≡ false) }
+{
+    let mut entries = config.zone.as_slice();
+    'each: while let [entry, others @ ..] = entries {
+        if stands_among(others, entry) {
             bail!("zone {} stands twice", entry.name.name);
         }
+        entries = others;
     }
     Ok(())
 }
 
 /// The secondary at a place, if it is that of an entry, and else all.
-fn near<'a>(secondaries: &'a [Secondary], place: usize, entry: &ZoneEntry) -> &'a [Secondary] {
+fn near<'a>(secondaries: &'a [Secondary], place: usize, entry: &ZoneEntry) -> &'a [Secondary]
+    ensures { AreNear secondaries.now entry.now result.now }
+{
     match secondaries.get(place) {
         Some(secondary) if secondary.is_of(entry) => slice::from_ref(secondary),
         _ => secondaries,
     }
+}
+
+/// The place of the secondary after that of an entry, if the entry has one.
+fn place_after(place: usize, entry: &ZoneEntry) -> usize {
+    if entry.primary.is_some() {
+        return place.saturating_add(1);
+    }
+    place
 }
 
 /// Whether the secondary of a zone has no copy of it.
@@ -98,15 +126,21 @@ pub(crate) fn summaries_without(
     config: &Config,
     summaries: &[ZoneSummary],
     secondaries: &[Secondary],
-) -> Result<Vec<ZoneSummary>, AllocError> {
+) -> Result<Vec<ZoneSummary>, AllocError>
+    ensures { IfOk result (λ others. AreWithout secondaries.now config.now.zone.items summaries.now others.items) }
+{
     let mut others = Vec::new(alloc);
     let mut place = 0usize;
-    for (entry, summary) in config.zone.iter().zip(summaries.iter()) {
-        let secondaries = near(secondaries, place, entry);
-        others.push(summary_without(secondaries, entry, summary))?;
-        if entry.primary.is_some() {
-            place = place.saturating_add(1);
-        }
+    let mut left = summaries;
+    'each: for entry in config.zone.iter() {
+        let (summary, later) = match left.split_first() {
+            Some(both) => both,
+            None => return Ok(others),
+        };
+        let its = near(secondaries, place, entry);
+        others.push(summary_without(its, entry, summary))?;
+        place = place_after(place, entry);
+        left = later;
     }
     Ok(others)
 }
@@ -118,16 +152,19 @@ fn load_copy(
     secondaries: &[Secondary],
     entry: &ZoneEntry,
 ) -> anyhow::Result<()>
-    ensures { OnOk result (list_any (lacks_copy entry.now.primary entry.now.name.name (string_bytes entry.now.file)) secondaries.now ≡ true
+    ensures lacking { OnOk result
+        (list_any (lacks_copy entry.now.primary entry.now.name.name (string_bytes entry.now.file)) secondaries.now ≡ true
         → generation.new ≡ with_withheld entry.now.name.name generation.old) }
+    ensures read { OnOk result (CopyIsRead secondaries.now entry.now generation.old generation.new) }
 {
-    if !is_without_copy(secondaries, entry) {
-        match load_zone(rt, generation, entry) {
-            Ok(()) => return Ok(()),
-            Err(fault) => warn!(rt; "{}: no copy is served: {fault:#}", entry.name.name),
-        }
+    if is_without_copy(secondaries, entry) {
+        generation.withhold(rt.alloc(), &entry.name.name)?;
+        return Ok(());
     }
-    generation.withhold(rt.alloc(), &entry.name.name)?;
+    if let Err(fault) = load_zone(rt, generation, entry) {
+        warn!(rt; "{}: no copy is served: {fault:#}", entry.name.name);
+        generation.withhold(rt.alloc(), &entry.name.name)?;
+    }
     Ok(())
 }
 
@@ -137,7 +174,9 @@ fn load_entry(
     generation: &mut Generation,
     secondaries: &[Secondary],
     entry: &ZoneEntry,
-) -> anyhow::Result<()> {
+) -> anyhow::Result<()>
+    ensures { OnOk result (EntryIsRead secondaries.now entry.now entry.now.primary generation.old generation.new) }
+{
     match entry.primary {
         Some(_) => load_copy(rt, generation, secondaries, entry),
         None => load_zone(rt, generation, entry),
@@ -149,15 +188,16 @@ pub(crate) fn load_generation(
     rt: &HostRuntime,
     config: &Config,
     secondaries: &[Secondary],
-) -> anyhow::Result<Generation> {
+) -> anyhow::Result<Generation>
+    ensures { IfOk result (ReadsAll secondaries.now config.now.zone.items
+        (no_zones (map network_of config.now.allow_transfer.items))) }
+{
     let allowed = networks(rt.alloc(), config.allow_transfer.as_slice())?;
     let mut generation = Generation::new(rt.alloc(), allowed);
     let mut place = 0usize;
-    for entry in config.zone.iter() {
+    'each: for entry in config.zone.iter() {
         load_entry(rt, &mut generation, near(secondaries, place, entry), entry)?;
-        if entry.primary.is_some() {
-            place = place.saturating_add(1);
-        }
+        place = place_after(place, entry);
     }
     Ok(generation)
 }

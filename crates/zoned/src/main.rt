@@ -3,7 +3,7 @@
 //! - `words` has the words of the command line, and `load` reads configurations and zones. `orders` are what a running server is
 //!   asked for, and `measures` what it tells at its page of metrics.
 //! - `server` goes from generation to generation: it looks every 50 ms whether something is asked, and shuts the listeners
-//!   down if something else is to be served. `served` is what is served at a time.
+//!   down if something else is to be served. Its part `obey` does what is asked. `served_config` is what is served at a time.
 //!
 //! dns_listener serves at an address, dns_zone_copies keeps the copies of zones that have a primary, and dns_notifier tells
 //! others of new serials.
@@ -15,8 +15,10 @@
 //! # What is proved
 //!
 //! - Each function is safe, and returns except for those that wait.
+//! - A configuration in which a zone stands twice is refused, and no other one for that (`refuse_twice`).
+//! - Each zone is read of its file, in their order, to be transferred to its own networks or to those for all (`ReadsAll`).
 //! - A zone whose secondary has no copy is without data in what is read. So it is in what is served where zones can't be read
-//!   again.
+//!   again (`AreWithout`).
 //! - The status of the program: 0 if all was done, 1 with a line that says the fault, 2 for faulty words.
 //!
 //! # What a body could still get away with
