@@ -18,6 +18,7 @@ use crate::stream::{AuthorityFuture, AuthorityStream};
 use crate::zone_data::ZoneData;
 use crate::zones::ServedZone;
 use dns_base::{AdditionalBuilder, Class, Message, Opcode, PushError, QuestionRef, Rcode, Rtype};
+use dns_networks::Network;
 use dns_service::{Once, OutOfMemory, ReplyStream, Request, Service, ServiceResult};
 use dns_transfer::message_item;
 use dns_zone::begin_reply;
