@@ -6,7 +6,7 @@ use Rattle.dns_service.specs.Req.{Req}
 use Rattle.dns_service.specs.Transport.{is_stream}
 use Rattle.dns_zone.specs.Owned.{ZoneState}
 use Rattle.dns_authority.specs.Authorities.{kept_bunches, may_transfer}
-use Rattle.dns_authority.specs.declared.networks.Network.{Network}
+use Rattle.dns_networks.specs.declared.network.Network.{Network}
 use Rattle.dns_transfer.specs.Transfers.{bunched, transfer_records}
 
 no_network : (b : Bool) → (b && false) ≡ true → ⊥

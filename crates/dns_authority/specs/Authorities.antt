@@ -15,9 +15,9 @@ use Rattle.dns_route.specs.Routes.{ends_name}
 use Rattle.dns_zone.specs.Owned.{ZoneState}
 use Rattle.dns_zone.specs.ZoneTurns.{zone_begun, zone_message}
 use Rattle.dns_denial.specs.Nsecs.{NsecState}
-use Rattle.dns_authority.specs.Networks.{is_in_any}
+use Rattle.dns_networks.specs.Networks.{is_in_any}
 use Rattle.dns_authority.specs.ServedZones.{nsecs_of, room_over, served_reply, tree_of}
-use Rattle.dns_authority.specs.declared.networks.Network.{Network}
+use Rattle.dns_networks.specs.declared.network.Network.{Network}
 use Rattle.dns_authority.specs.declared.zone_data.ZoneData.{ZoneData}
 use Rattle.dns_transfer.specs.Transfers.{bunched, message_item, transfer, transfer_records}
 

@@ -2,8 +2,8 @@ pub use Rattle.dns_zone.specs.Owned
 pub use Rattle.dns_name_server.specs.NameServerReplies
 pub use Rattle.dns_zone.specs.ZoneTurns
 pub use Rattle.dns_transfer.specs.Transfers
-pub use Rattle.dns_kinds.specs.Subnet
-pub mod Networks
+pub use Rattle.dns_networks.specs.Networks
+pub use Rattle.dns_networks.specs.declared.network.Network
 pub mod Streams
 pub mod ServedZones
 pub mod Authorities

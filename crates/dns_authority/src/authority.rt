@@ -14,11 +14,11 @@ ghost use Rattle.dns_route.specs.Routes.{ends_name};
 ghost use Rattle.dns_zone.specs.ZoneTurns.{zone_begun};
 ghost use Rattle.dns_authority.specs.Authorities.{and_data, and_zone, asked_zone, asks_transfer, authority_answer, by_class, by_question, by_zone, coded, longer, may_transfer, sole_question, transferred, zone_above, zone_for, zone_for_ds};
 
-use crate::networks::Network;
 use crate::stream::{AuthorityFuture, AuthorityStream};
 use crate::zone_data::ZoneData;
 use crate::zones::ServedZone;
 use dns_base::{AdditionalBuilder, Class, Message, Opcode, PushError, QuestionRef, Rcode, Rtype};
+use dns_networks::Network;
 use dns_service::{Once, OutOfMemory, ReplyStream, Request, Service, ServiceResult};
 use dns_transfer::message_item;
 use dns_zone::begin_reply;

@@ -4,7 +4,7 @@
 //! - `add` adds a `ZoneTree` of dns_zone_tree, whose records each have room in a reply. It may be transferred to the
 //!   networks of `Authority::new`, or to those of its own that `add_for` takes. `add_data` adds a zone that
 //!   is signed or not: the replies of a `SignedZone` of dns_signed_zone to DO have RRSIGs and denials.
-//! - `Network` is the addresses whose first bits are those of an address.
+//! - `Network` is the addresses whose first bits are those of an address (dns_networks).
 //! - `AuthorityStream` and `AuthorityFuture` are its replies: one reply, or the replies of a transfer.
 //!
 //! The reply to a question is that of dns_name_server, from a signed zone that of dns_signed_reply. The replies of a transfer come
@@ -32,16 +32,15 @@
 
 mod authority;
 mod laws;
-mod networks;
 mod stream;
 mod zone_data;
 mod zones;
 
 pub use authority::Authority;
+pub use dns_networks::Network;
 pub use dns_transfer::Transfer;
 pub use laws::{
     the_longest_apex_answers, transfers_are_answered, transfers_are_the_records, zones_are_sent,
 };
-pub use networks::Network;
 pub use stream::{AuthorityFuture, AuthorityStream};
 pub use zone_data::ZoneData;

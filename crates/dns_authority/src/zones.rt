@@ -9,9 +9,9 @@ ghost use Rattle.dns_authority.specs.ServedZones.{nsecs_of, tree_of};
 ghost use Rattle.dns_transfer.specs.Transfers.{bunched, transfer, transfer_records};
 
 use crate::laws::same_names_are_folded;
-use crate::networks::{Network, is_in_any};
 use crate::zone_data::{ZoneData, room_over, served_reply};
 use dns_base::{Name, QuestionRef};
+use dns_networks::{Network, is_in_any};
 use dns_route::matches_are_suffixes;
 use dns_service::{OutOfMemory, ReplyStream, Request, ServiceResult};
 use dns_transfer::{Bunches, Transfer, message_item};

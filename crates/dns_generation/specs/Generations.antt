@@ -16,7 +16,7 @@ use Rattle.dns_authority.specs.declared.zone_data.ZoneData.TheVariants.{Unsigned
 use Rattle.dns_denial.specs.Chains.{IsWhole}
 use Rattle.dns_nsec_data.specs.NsecData.{IsChainOf}
 use Rattle.dns_signed_zone.specs.MadeZones.{Refuses}
-use Rattle.dns_authority.specs.declared.networks.Network.{Network}
+use Rattle.dns_authority.specs.Network.{Network}
 use Rattle.dns_config.specs.declared.prefix.Prefix.{Prefix}
 use Rattle.dns_generation.specs.declared.zone_text_error.ZoneTextError.{ZoneTextError}
 use Rattle.dns_generation.specs.declared.zone_text_error.ZoneTextError.TheVariants.{Line, NotSigned, NotZone, OutOfMemory}

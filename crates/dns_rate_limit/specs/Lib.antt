@@ -1,5 +1,5 @@
+pub use Rattle.dns_networks.specs.Networks
 pub mod Accounts
 pub mod Histories
-pub mod Networks
 pub mod Tables
 pub mod Limited

@@ -6,13 +6,13 @@ use Rattle.lru.specs.LruCache.{lru_cache}
 use Rattle.dns_name.specs.declared.address.IpAddr.{IpAddr}
 use Rattle.dns_rate_limit.specs.declared.kind.Kind.{Kind}
 use Rattle.dns_rate_limit.specs.declared.kind.Kind.TheVariants.{Answer, Referral, Negative, Error}
-use Rattle.dns_rate_limit.specs.declared.network.Network.{Network}
+use Rattle.dns_networks.specs.declared.network.Network.{Network}
 use Rattle.dns_rate_limit.specs.declared.rate.Rate.{Rate}
 use Rattle.dns_rate_limit.specs.declared.rate.Verdict.{Verdict}
 use Rattle.dns_rate_limit.specs.declared.rate.Verdict.TheVariants.{Whole}
 use Rattle.dns_rate_limit.specs.declared.zone_client.ZoneClient.{ZoneClient}
 use Rattle.dns_rate_limit.specs.Accounts.{charged_from, verdict_by}
-use Rattle.dns_rate_limit.specs.Networks.{is_in_any, network_of}
+use Rattle.dns_networks.specs.Networks.{is_in_any, network_of}
 use Rattle.dns_rate_limit.specs.Tables.{LimiterState, behind}
 
 module _ {K : Type 0} (same : K → K → Bool) where

@@ -36,11 +36,11 @@ mod kind;
 mod laws;
 mod limiter;
 mod limits;
-mod network;
 mod rate;
 mod zone_client;
 
 pub use account::Account;
+pub use dns_networks::{Network, network_of};
 pub use kind::Kind;
 pub use laws::{
     clients_are_limited_by_their_own, forgetting_limits_no_more, limits_hold,
@@ -48,6 +48,5 @@ pub use laws::{
 };
 pub use limiter::Limiter;
 pub use limits::{Limits, Settings};
-pub use network::{Network, network_of};
 pub use rate::{Rate, Verdict};
 pub use zone_client::ZoneClient;

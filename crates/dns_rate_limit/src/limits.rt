@@ -6,10 +6,10 @@ ghost use Rattle.dns_rate_limit.specs.Limited.{behind_in, behind_judged, charged
 
 use crate::kind::Kind;
 use crate::limiter::Limiter;
-use crate::network::{Network, is_in_any, network_of};
 use crate::rate::{Rate, Verdict};
 use crate::zone_client::ZoneClient;
 use dns_name::{IpAddr, OutOfMemory};
+use dns_networks::{Network, is_in_any, network_of};
 use std::alloc::Global;
 use std::hash::{BuildHasher, Hash};
 use std::marker::Model;

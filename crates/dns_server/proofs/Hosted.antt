@@ -10,7 +10,7 @@ use Rattle.dns_transport.specs.HostEnd.{HostEnd}
 use Rattle.dns_transport.specs.HostEnd.TheVariants.{Done, OutOfMemory, HostFault}
 use Rattle.dns_account.specs.Hosts.{AcceptTells, SockTells, HostKept}
 use Rattle.dns_account.proofs.WitnessedHost.{host_kept}
-use Rattle.dns_server.specs.HostStatus.{status_of_host, OfHost}
+use Rattle.dns_host_status.specs.HostStatus.{status_of_host, OfHost}
 use Rattle.dns_server.specs.OverWitnesses.{WorkersKept}
 use Rattle.dns_server.proofs.WitnessedServers.{workers_kept}
 use Rattle.dns_run.specs.declared.status.Status.{Status}

@@ -1,3 +1,4 @@
+pub use Rattle.dns_host_status.specs.HostStatus
 pub use Rattle.dns_io.specs.Causes
 pub use Rattle.dns_io.specs.Moves
 pub use Rattle.dns_run.specs.AnswerWords
@@ -28,7 +29,6 @@ pub use Rattle.dns_run.specs.Writes
 pub use Rattle.dns_service.specs.Transport
 pub use Rattle.dns_trace.specs.EventLines
 pub use Rattle.dns_trace.specs.Reading
-pub mod HostStatus
 pub mod OverWitnesses
 pub mod Recorded
 pub mod Replays

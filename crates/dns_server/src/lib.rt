@@ -26,7 +26,6 @@
 //! What standard input and sockets really hold.
 #![tactic(auto)]
 
-mod host_status;
 mod in_range;
 mod laws;
 mod over_witnesses;
@@ -36,6 +35,7 @@ mod trace_recorder;
 
 pub use dns_book::{Book, BookSeat};
 pub use dns_core::{BookState, Settings, wrap};
+pub use dns_host_status::status_of_host;
 pub use dns_middleware::Wrapped;
 pub use dns_run::{
     Ask, CachedRules, Command, Counts, NoEvent, NotifyRule, NotifyRules, Rule, RuleList, Rules,
@@ -55,7 +55,6 @@ pub use dns_transport::{
 };
 pub use dns_witness::{Witness, WitnessAccept, WitnessClock, WitnessSock, WitnessSpawner};
 pub use dns_workers::{Worker, WorkersHost};
-pub use host_status::status_of_host;
 pub use laws::a_connection_replays;
 pub use over_witnesses::{
     every_counted_connection_kept_to_the_rules, run_dgram_server_over, run_stream_server_over,

@@ -13,7 +13,7 @@ ghost use Rattle.dns_stream_driver.specs.Clocks.{TimedWhole};
 ghost use Rattle.dns_stream_driver.specs.Endings.{EndCauses, EndShown, EndsSo, WhereClosed};
 ghost use Rattle.dns_stream_driver.specs.Story.{LooksAndRelease};
 ghost use Rattle.dns_transport.specs.Runs.{ConnectionsRan, DatagramsRan, InSlot};
-ghost use Rattle.dns_server.specs.HostStatus.{OfHost};
+ghost use Rattle.dns_host_status.specs.HostStatus.{OfHost};
 ghost use Rattle.dns_server.specs.OverWitnesses.{ServerKept, WorkersKept};
 ghost use Rattle.dns_workers.specs.Faults.{RoseBy};
 

@@ -6,11 +6,11 @@ ghost use Rattle.dns_middleware.specs.Verdicts.{verdict_on};
 ghost use Rattle.dns_middleware.specs.Wrapped.{hint_left, replies};
 ghost use Rattle.dns_session.specs.Serving.{Serving, serving};
 ghost use Rattle.dns_transport.specs.Hosting.{HostServed, ShutDown, host_seen, accept_observed, sock_observed};
-ghost use Rattle.dns_server.specs.HostStatus.{OfHost, status_of_host};
+ghost use Rattle.dns_host_status.specs.HostStatus.{OfHost, status_of_host};
 
-use crate::host_status::status_of_host;
 use dns_book::{Book, BookSeat};
 use dns_core::{Notifiable, Settings};
+use dns_host_status::status_of_host;
 use dns_io::{AsyncAccept, AsyncDgramSock, Clock, Spawner};
 use dns_middleware::Wrapped;
 use dns_name::OutOfMemory;

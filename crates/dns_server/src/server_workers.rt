@@ -8,7 +8,7 @@ ghost use Rattle.dns_session.specs.Serving.{Serving, serving};
 ghost use Rattle.dns_transport.specs.Hosting.{NeitherBegan};
 ghost use Rattle.dns_workers.specs.Workers.{WorkersServed};
 ghost use Rattle.dns_workers.specs.Faults.{RoseBy};
-ghost use Rattle.dns_server.specs.HostStatus.{OfHost};
+ghost use Rattle.dns_host_status.specs.HostStatus.{OfHost};
 
 use crate::server_host::{by_status, without_memory};
 use dns_book::{Book, BookSeat};

@@ -1,7 +1,7 @@
 use Rattle.std.proofs.Common.{◌≡◌, List, Some, ap, sym, ◌∙◌}
 use Rattle.std.proofs.lemmas.List.{nil_from_length}
 use Rattle.dns_authority.specs.Authorities.{kept_bunches}
-use Rattle.dns_authority.specs.declared.networks.Network.{Network}
+use Rattle.dns_networks.specs.declared.network.Network.{Network}
 use Rattle.dns_authority.proofs.zones.kept_bunches.Goals as goal
 
 pub returns-in_ok-bunches-in-Some : goal.returns-in_ok-bunches-in-Some

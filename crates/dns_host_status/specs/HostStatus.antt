@@ -1,8 +1,8 @@
 -- The status of a host that was served.
 use Rattle.dns_run.specs.declared.status.Status.{Status}
 use Rattle.dns_run.specs.declared.status.Status.TheVariants.{Done, OutOfMemory, HostFault}
-use Rattle.dns_transport.specs.HostEnd.{HostEnd}
-use Rattle.dns_transport.specs.HostEnd.TheVariants.{Done as HostDone, OutOfMemory as HostOutOfMemory, HostFault as HostFailed}
+use Rattle.dns_host.specs.declared.host.HostEnd.{HostEnd}
+use Rattle.dns_host.specs.declared.host.HostEnd.TheVariants.{Done as HostDone, OutOfMemory as HostOutOfMemory, HostFault as HostFailed}
 
 -- the status of a host that was served
 abbrev pub status_of_host : HostEnd → Status

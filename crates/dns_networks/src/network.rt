@@ -1,13 +1,13 @@
-//! Networks of addresses.
+//! A network, and which addresses are in it.
 
 ghost use Rattle.std.specs.Prelude.{◌≡◌};
-ghost use Rattle.dns_rate_limit.specs.Networks.{first_bits, is_in_any, is_in_network, network_of};
+ghost use Rattle.dns_networks.specs.Networks.{first_bits, is_in_any, is_in_network, network_of};
 
 use dns_kinds::ClientSubnet;
 use dns_name::IpAddr;
 
-/// The addresses whose first bits are those of an address. A prefix that is longer than the address takes all of its bits.
-#[derive(Clone, Copy)]
+/// The addresses whose first bits are those of an address. A prefix that is longer than an address takes all of its bits.
+#[derive(Clone, Copy, Debug, PartialEq, Eq)]
 pub struct Network {
     /// An address of the network.
     pub address: IpAddr,
@@ -26,6 +26,13 @@ impl Network {
     }
 }
 
+/// An address without its bits past a prefix of that many bits.
+fn first_bits(address: IpAddr, bits: u8) -> IpAddr
+    ensures { result ≡ first_bits bits address }
+{
+    ClientSubnet::new(bits, 0, address).addr()
+}
+
 /// The network of an address, by a prefix length in bits for addresses of IPv4 and one for those of IPv6.
 pub fn network_of(address: IpAddr, ipv4_bits: u8, ipv6_bits: u8) -> IpAddr
     ensures { result ≡ network_of ipv4_bits ipv6_bits address }
@@ -36,15 +43,8 @@ pub fn network_of(address: IpAddr, ipv4_bits: u8, ipv6_bits: u8) -> IpAddr
     }
 }
 
-/// An address without its bits past a prefix.
-fn first_bits(address: IpAddr, bits: u8) -> IpAddr
-    ensures { result ≡ first_bits bits address }
-{
-    ClientSubnet::new(bits, 0, address).addr()
-}
-
 /// Whether an address is in one of some networks.
-pub(crate) fn is_in_any(networks: &[Network], address: IpAddr) -> bool
+pub fn is_in_any(networks: &[Network], address: IpAddr) -> bool
     ensures { result ≡ is_in_any networks.now address }
 {
     for network in networks {

@@ -1,10 +1,10 @@
 //! The status of a host that was served.
 
 ghost use Rattle.std.specs.Prelude.{◌≡◌};
-ghost use Rattle.dns_server.specs.HostStatus.{status_of_host};
+ghost use Rattle.dns_host_status.specs.HostStatus.{status_of_host};
 
+use dns_host::HostEnd;
 use dns_run::Status;
-use dns_transport::HostEnd;
 
 /// The status that stands for a host's end.
 pub fn status_of_host(end: HostEnd) -> Status

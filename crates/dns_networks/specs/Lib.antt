@@ -1,0 +1,2 @@
+pub use Rattle.dns_kinds.specs.Subnet
+pub mod Networks
