@@ -197,7 +197,7 @@ fn aged_built(
     message_built(alloc, header, question, sections, age)
 }
 
-/// The reply of a message that is kept without its OPT record, as a request of one question gets it at an age, if that fits.
+/// The reply of a message that is kept without its OPT record, as a request of one question gets it at an age.
 pub(crate) fn built_reply(
     alloc: Global,
     message: &Message,
