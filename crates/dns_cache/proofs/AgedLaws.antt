@@ -43,8 +43,19 @@ four_more n o = omega arith
 record_size : (r : ResourceRecord) → length (record_octets r) ≡ length (spell r.owner) + 4 + (4 + length (back r))
 record_size r = omega (arith, ap length (parted r), length-append (front r) (four r.ttl ++ back r), front_size r, four_more r.ttl (back r))
 
-same_size : (age : ℕ) (r : ResourceRecord) → length (record_octets (aged_record age r)) ≡ length (record_octets r)
+pub same_size : (age : ℕ) (r : ResourceRecord) → length (record_octets (aged_record age r)) ≡ length (record_octets r)
 same_size age r = omega (arith, ap length (aged_parted age r), length-append (front r) (four (aged_ttl age (mark_of r)) ++ back r), front_size r, four_more (aged_ttl age (mark_of r)) (back r), record_size r)
+
+behind_ttl : (r : ResourceRecord) → drop (length (spell r.owner) + 4 + 4) (record_octets r) ≡ back r
+behind_ttl r =
+    ap (drop (length (spell r.owner) + 4 + 4)) (parted r ∙ sym (append_assoc (front r) (four r.ttl) (back r)))
+    ∙ drop_at (front r ++ four r.ttl) (back r) (length (spell r.owner) + 4 + 4) (length-append (front r) (four r.ttl) ∙ ap (λ n. n + 4) (front_size r))
+
+-- a record's octets round its TTL at an age
+pub one_aged : (age : ℕ) (r : ResourceRecord) → take (mark_of r).before (record_octets r) ++ (four (aged_ttl age (mark_of r)) ++ drop ((mark_of r).before + 4) (record_octets r)) ≡ record_octets (aged_record age r)
+one_aged age r =
+    let before : take (length (spell r.owner) + 4) (record_octets r) ≡ front r = ap (take (length (spell r.owner) + 4)) (parted r) ∙ take_at (front r) (four r.ttl ++ back r) (length (spell r.owner) + 4) (front_size r) in
+    ap₂ (λ x y. x ++ (four (aged_ttl age (mark_of r)) ++ y)) before (behind_ttl r) ∙ sym (aged_parted age r)
 
 -- ---- records
 
@@ -58,11 +69,6 @@ module _ (age : ℕ) (r : ResourceRecord) (more : List ℕ) where
   whole_record : take (length (record_octets r)) (record_octets r ++ more) ≡ record_octets r
   whole_record = take_at (record_octets r) more (length (record_octets r)) refl
 
-  behind_ttl : drop (length (spell r.owner) + 4 + 4) (record_octets r) ≡ back r
-  behind_ttl =
-      ap (drop (length (spell r.owner) + 4 + 4)) (parted r ∙ sym (append_assoc (front r) (four r.ttl) (back r)))
-      ∙ drop_at (front r ++ four r.ttl) (back r) (length (spell r.owner) + 4 + 4) (length-append (front r) (four r.ttl) ∙ ap (λ n. n + 4) (front_size r))
-
 pub records_aged : (age : ℕ) (rs : List ResourceRecord) → aged_octets age (map mark_of rs) (flat_map record_octets rs) ≡ flat_map record_octets (map (aged_record age) rs)
 records_aged age [] = refl
 records_aged age (r ∷ rs) =
@@ -70,7 +76,7 @@ records_aged age (r ∷ rs) =
     let o = record_octets r ++ more in
     let k = mark_of r in
     let a : take k.before o ≡ front r = before_ttl age r more in
-    let b : drop (k.before + 4) (take k.size o) ≡ back r = ap (drop (k.before + 4)) (whole_record age r more) ∙ behind_ttl age r more in
+    let b : drop (k.before + 4) (take k.size o) ≡ back r = ap (drop (k.before + 4)) (whole_record age r more) ∙ behind_ttl r in
     let c : aged_octets age (map mark_of rs) (drop k.size o) ≡ flat_map record_octets (map (aged_record age) rs) = ap (aged_octets age (map mark_of rs)) (drop_at (record_octets r) more k.size refl) ∙ records_aged age rs in
     let t = four (aged_ttl age k) in
     let rest = flat_map record_octets (map (aged_record age) rs) in

@@ -5,5 +5,6 @@ pub mod TypedLaws
 pub mod AgedLaws
 pub mod KeptLaws
 pub mod ReplyLaws
+mod BuiltLaws
 pub mod EntryLaws
 pub mod CallLaws

@@ -25,7 +25,7 @@ use Rattle.dns_cache.proofs.MarkLaws.{others_joined}
 same_type : (age : ℕ) (r : ResourceRecord) → (aged_record age r).rtype ≡ r.rtype
 same_type age r = elim (nat_eq r.rtype 41) as (λ b. (if b then r else record r { ttl = r.ttl - age }).rtype ≡ r.rtype) [ true ↦ refl | false ↦ refl ]
 
-same_owner : (age : ℕ) (r : ResourceRecord) → (aged_record age r).owner ≡ r.owner
+pub same_owner : (age : ℕ) (r : ResourceRecord) → (aged_record age r).owner ≡ r.owner
 same_owner age r = elim (nat_eq r.rtype 41) as (λ b. (if b then r else record r { ttl = r.ttl - age }).owner ≡ r.owner) [ true ↦ refl | false ↦ refl ]
 
 pub others_aged : (age : ℕ) (rs : List ResourceRecord) → other_than 41 (map (aged_record age) rs) ≡ map (aged_record age) (other_than 41 rs)

@@ -5,6 +5,7 @@ pub use Rattle.lru.specs.LruCache
 pub mod Keys
 pub mod Ttls
 pub mod Aged
+pub mod AgedRecords
 pub mod AskedCache
 pub mod Steps
 pub mod Marks

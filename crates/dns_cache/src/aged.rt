@@ -1,6 +1,6 @@
 //! Replies out of the cache.
 
-ghost use Rattle.std.specs.Prelude.{◌≡◌, ◌≤◌, ◌+◌, ◌++◌, ◌∷◌, [], drop, length, take, IfOk, OnOk};
+ghost use Rattle.std.specs.Prelude.{◌≡◌, ◌≤◌, ◌+◌, ◌++◌, ◌∷◌, [], drop, length, take, IfOk, IsTrue, OnErr, OnOk};
 ghost use Rattle.dns_name.specs.Place.{four};
 ghost use Rattle.dns_base.specs.Header.{IsHeader, header_octets, header_of};
 ghost use Rattle.dns_base.specs.Msg.{HasName, IsMessage};
@@ -8,11 +8,12 @@ ghost use Rattle.dns_base.specs.Sections.{message_of, questions_of};
 ghost use Rattle.dns_base.specs.Wire.{question_octets, wire};
 ghost use Rattle.dns_route.specs.ReplyMessage.{reply_message};
 ghost use Rattle.dns_cache.specs.Aged.{aged, asked_header};
-ghost use Rattle.dns_cache.specs.AskedCache.{bare_octets, young_message};
+ghost use Rattle.dns_cache.specs.AskedCache.{bare_octets, fits_frame, young_message};
 ghost use Rattle.dns_cache.specs.Steps.{GivesMessage, age_of};
 ghost use Rattle.dns_cache.specs.Keys.{AsksOnce};
 ghost use Rattle.dns_cache.specs.Marks.{IsKept, MarksFit, aged_octets, aged_ttl};
 
+use crate::built::built_reply;
 use crate::cached_reply::{CachedReply, own_opt};
 use crate::marks::Mark;
 use dns_base::{ComposeQuestion, Header, Message, QuestionRef};
@@ -52,8 +53,35 @@ impl CachedReply {
         }
     }
 
-    /// The reply to the one question of a request, with its TTLs lowered by an age.
+    /// The reply to the one question of a request, with its TTLs lowered by an age, if that fits.
     fn reply(
+        &self,
+        alloc: Global,
+        request: &Message,
+        question: &QuestionRef<'_>,
+        age: u32,
+    ) -> Result<ReplyMessage, OutOfMemory>
+        requires asked { (questions_of request.now).0 ≡ question.now ∷ [] }
+        requires fits { IsTrue (fits_frame (aged self.now.message request.now age)) }
+        ensures message { IfOk result (λ r. reply_message r ≡ Ok (aged self.now.message request.now age)) }
+        ensures octets { IfOk result (λ r. r.octets ≡ bare_octets (aged self.now.message request.now age)) }
+    {
+        match &self.opt {
+            Some(_) => self.reply_with_opt(alloc, request, question, age),
+            None => built_reply(
+                alloc,
+                &self.message,
+                self.start,
+                self.marks.as_slice(),
+                request,
+                question,
+                age,
+            ),
+        }
+    }
+
+    /// The reply as octets, and its OPT record beside them.
+    fn reply_with_opt(
         &self,
         alloc: Global,
         request: &Message,
@@ -134,7 +162,7 @@ fn push_head(message: &Message, request: Header, target: &mut Vec<u8>) -> Result
 }
 
 /// A header with a request's identifier and RD bit.
-fn asked(header: Header, request: Header) -> Header
+pub(crate) fn asked(header: Header, request: Header) -> Header
     ensures { result ≡ asked_header header request }
 {
     Header {
@@ -163,13 +191,20 @@ fn push_aged(
     Ok(())
 }
 
-/// Appends a record with its TTL lowered by an age.
-fn push_record(octets: &[u8], mark: Mark, age: u32, target: &mut Vec<u8>) -> Result<(), OutOfMemory>
+/// Appends a record with its TTL lowered by an age; nothing if there is no memory.
+pub(crate) fn push_record(
+    octets: &[u8],
+    mark: Mark,
+    age: u32,
+    target: &mut Vec<u8>,
+) -> Result<(), OutOfMemory>
     requires { mark.before + 4 ≤ length octets.now }
-    ensures { OnOk result (target.new.items ≡ target.old.items
+    ensures ok { OnOk result (target.new.items ≡ target.old.items
         ++ (take mark.before octets.now ++ (four (aged_ttl age mark) ++ drop (mark.before + 4) octets.now))) }
+    ensures err { OnErr result (target.new.items ≡ target.old.items) }
 {
     let before = mark.before as usize;
+    target.reserve(octets.len())?;
     target.extend_from_slice(&octets[..before])?;
     target.extend_from_slice(&four_octets(mark.aged(age)))?;
     target.extend_from_slice(&octets[before + 4..])?;

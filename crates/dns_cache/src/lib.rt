@@ -29,6 +29,7 @@
 #![tactic(auto)]
 
 mod aged;
+mod built;
 mod cache;
 mod cached_reply;
 mod key;
