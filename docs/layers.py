@@ -15,7 +15,7 @@ HERE = os.path.dirname(os.path.realpath(__file__))
 # Each group: its title, its row from the top, its first column and how many it has, its color, and its crates.
 GROUPS = [
     ("Programs", 0, 1, 3, "#f6d6c4", "nutscythe zoned forwardd"),
-    ("A server that runs", 1, 1, 2, "#f6d6c4", "dns_server dns_listener dns_zone_copies dns_notifier dns_control dns_metrics dns_proxy_status"),
+    ("A server that runs", 1, 1, 2, "#f6d6c4", "dns_host_status dns_server dns_listener dns_zone_copies dns_notifier dns_control dns_metrics dns_proxy_status"),
     ("For callers from C", 1, 3, 1, "#f6d6c4", "dns_embed dns_reply_builder nutscythe_c"),
     ("Servers over sockets", 2, 0, 1, "#f6d6c4", "dns_transport dns_query_link dns_socket_addr"),
     ("Scripts, run, floods", 2, 2, 2, "#f6d6c4", "dns_trace dns_script dns_flood dns_run"),
@@ -29,7 +29,7 @@ GROUPS = [
     ("Slots and configurations", 5, 1, 1, "#f8e7b9", "dns_admission dns_book_words dns_book dns_config"),
     ("The four layers", 5, 2, 1, "#d7e8c8", "dns_layers dns_middleware dns_rewriting dns_own_opt dns_udp_size dns_reply_counts dns_reply_options dns_transfer_notes dns_signing"),
     ("Requests, services, events", 6, 1, 2, "#d7e8c8", "dns_replies dns_events dns_service dns_stream"),
-    ("EDNS options", 7, 1, 2, "#c9e2e6", "dns_lists dns_algs dns_kinds dns_cookie dns_option_list dns_options dns_opt dns_rate_limit"),
+    ("EDNS options", 7, 1, 2, "#c9e2e6", "dns_lists dns_algs dns_kinds dns_cookie dns_option_list dns_options dns_opt dns_networks dns_rate_limit"),
     ("Zone files", 7, 3, 1, "#c9e2e6", "dns_entries dns_word_values dns_presentation dns_zone_file dns_record_text dns_message_text dns_zone_include"),
     ("Messages", 8, 1, 3, "#d5d3ea", "dns_message dns_base dns_hmac dns_tsig dns_peer_keys"),
     ("Names and numbers", 9, 0, 4, "#d5d3ea", "dns_name dns_order"),
