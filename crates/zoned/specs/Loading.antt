@@ -3,7 +3,7 @@ use Rattle.std.specs.Prelude.{ℕ, ◌≡◌, ◌⊎◌, Bool, true, Contains, L
 use Rattle.std.specs.List.{list_any}
 use Rattle.std.specs.declared.alloc.Global.{Global}
 use Rattle.std.specs.declared.vec.Vec.{Vec}
-use Rattle.dns_authority.specs.declared.networks.Network.{Network}
+use Rattle.dns_authority.specs.Network.{Network}
 use Rattle.dns_config.specs.declared.address.Endpoint.{Endpoint}
 use Rattle.dns_config.specs.declared.config.ZoneEntry.{ZoneEntry}
 use Rattle.dns_config.specs.declared.prefix.Prefix.{Prefix}
