@@ -9,3 +9,5 @@ pub mod DownLaws
 pub mod WayLaws
 pub mod ErrorLaws
 pub mod HostLaws
+pub mod WireLaws
+pub mod ReferralLaws

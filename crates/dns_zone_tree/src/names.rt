@@ -95,6 +95,13 @@ fn kinds_by<'a>(own: &[u8], key: &[u8], kinds: &'a Kinds, none: &'a Kinds) -> Op
 }
 
 impl Names {
+    /// The nodes, in order.
+    pub(crate) fn nodes(&self) -> &[Node]
+        ensures { result.now ≡ self.now.nodes }
+    {
+        self.nodes.as_slice()
+    }
+
     /// What is kept of the name of a key, if it exists. The first node that doesn't come before the key says it.
     pub(crate) fn kinds_at(&self, key: &[u8]) -> Option<&Kinds>
         ensures { option_copied result ≡ kinds_under self.now key.now }

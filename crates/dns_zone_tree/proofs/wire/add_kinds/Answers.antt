@@ -3,8 +3,8 @@ use Rattle.dns_base.specs.Records.{record_of}
 use Rattle.dns_zone.specs.Places.{at_places}
 use Rattle.dns_zone_tree.specs.Kinds.{places_of}
 use Rattle.dns_zone_tree.specs.declared.kinds.TypedPlace.{TypedPlace}
-use Rattle.dns_name_server.proofs.StepLaws.{kinds_next}
-use Rattle.dns_name_server.proofs.compose.add_kinds.Goals as goal
+use Rattle.dns_zone_tree.proofs.WireLaws.{kinds_next}
+use Rattle.dns_zone_tree.proofs.wire.add_kinds.Goals as goal
 
 pub each-init : goal.each-init
 each-init c = sym (append-nil c.args.into.now)

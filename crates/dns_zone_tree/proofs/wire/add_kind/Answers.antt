@@ -1,5 +1,5 @@
-use Rattle.dns_name_server.proofs.StepLaws.{add_none}
-use Rattle.dns_name_server.proofs.compose.add_kind.Goals as goal
+use Rattle.dns_zone_tree.proofs.WireLaws.{add_none}
+use Rattle.dns_zone_tree.proofs.wire.add_kind.Goals as goal
 
 pub push-requires : goal.push-requires
 push-requires c = c.in-Some.ensures.lawful c.requires
