@@ -11,6 +11,7 @@ ghost use Rattle.dns_zone_tree.specs.Nodes.{IsJoined, is_last, is_lower, key_of}
 ghost use Rattle.dns_zone_tree.specs.TreeErrors.{Makes, size_error, size_limit};
 
 use crate::error::TreeError;
+use crate::hints::Hints;
 use crate::kinds::{Kinds, TypedPlace};
 use crate::names::{Keyed, Names, Node, Span, key_of};
 use dns_base::Record;
@@ -179,6 +180,7 @@ fn indexed(alloc: Global, keys: Keys) -> Result<Names, OutOfMemory>
         octets,
         nodes,
         none,
+        hints: Hints::new(alloc),
     })
 }
 
@@ -191,6 +193,7 @@ pub(crate) fn names_of(alloc: Global, records: &[Record]) -> Result<Names, TreeE
         return Err(TreeError::Large);
     }
     let keys = keys_of(alloc, records)?;
-    let names = indexed(alloc, keys)?;
+    let mut names = indexed(alloc, keys)?;
+    names.hint(alloc)?;
     Ok(names)
 }
