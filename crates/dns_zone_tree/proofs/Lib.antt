@@ -11,3 +11,4 @@ pub mod ErrorLaws
 pub mod HostLaws
 pub mod WireLaws
 pub mod ReferralLaws
+pub mod StarLaws

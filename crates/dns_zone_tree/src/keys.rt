@@ -13,7 +13,7 @@ ghost use Rattle.dns_zone_tree.specs.TreeErrors.{Makes, size_error, size_limit};
 use crate::error::TreeError;
 use crate::hints::Hints;
 use crate::kinds::{Kinds, TypedPlace};
-use crate::names::{Keyed, Names, Node, Span, key_of};
+use crate::names::{Keyed, Names, Node, Span, has_star, key_of};
 use dns_base::Record;
 use dns_name::OutOfMemory;
 use dns_order::canonical_key;
@@ -176,11 +176,13 @@ fn indexed(alloc: Global, keys: Keys) -> Result<Names, OutOfMemory>
     sort_keys(octets.as_slice(), &mut keyed)?;
     let nodes = joined(alloc, octets.as_slice(), keyed.as_slice())?;
     let none = Kinds::new();
+    let stars = has_star(octets.as_slice());
     Ok(Names {
         octets,
         nodes,
         none,
         hints: Hints::new(alloc),
+        stars,
     })
 }
 

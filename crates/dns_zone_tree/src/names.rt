@@ -1,11 +1,11 @@
 //! The index of a zone: the names that own records, in the canonical order.
 
-ghost use Rattle.std.specs.Prelude.{◌≡◌, true, false, IfSome, Some};
+ghost use Rattle.std.specs.Prelude.{◌≡◌, ℕ, List, true, false, IfSome, Some, None};
 ghost use Rattle.std.specs.List.{slice_get};
 ghost use Rattle.std.specs.List.Sorted.{IsPartitionPoint};
 ghost use Rattle.std.specs.Option.{option_copied};
 ghost use Rattle.std.specs.Str.{bytes_eq};
-ghost use Rattle.dns_zone_tree.specs.Nodes.{AreOrdered, is_before, key_of, kinds_by, kinds_under};
+ghost use Rattle.dns_zone_tree.specs.Nodes.{AreOrdered, has_star, is_before, key_of, kinds_by, kinds_under};
 
 use crate::hints::{Hints, PROBES};
 use crate::kinds::{Kinds, TypedPlace};
@@ -41,16 +41,17 @@ pub(crate) struct Names {
     pub(crate) nodes: Vec<Node>,
     pub(crate) none: Kinds,
     pub(crate) hints: Hints,
+    pub(crate) stars: bool,
 }
 
 impl Model for Names {
-    ghost use Rattle.dns_zone_tree.specs.Nodes.{AreOrdered, Names as Index};
+    ghost use Rattle.dns_zone_tree.specs.Nodes.{IsIndex, Names as Index};
 
     ghost Value = { Index };
 
     ghost view = { λ n. record { octets = n.octets.items; nodes = n.nodes.items; none = n.none } };
 
-    ghost invariant = { λ n. AreOrdered n.octets.items n.nodes.items };
+    ghost invariant = { λ n. IsIndex n.octets.items n.nodes.items n.stars };
 }
 
 /// The octets of a key; none if it doesn't lie among the octets.
@@ -61,6 +62,13 @@ pub(crate) fn key_of(octets: &[u8], span: Span) -> &[u8]
         Some(key) => key,
         None => &[],
     }
+}
+
+/// Whether one of some octets is `*`.
+pub(crate) fn has_star(octets: &[u8]) -> bool
+    ensures { result ≡ has_star octets.now }
+{
+    octets.iter().any(|octet| b'*' == *octet)
 }
 
 /// Whether a node comes before a key.
@@ -112,6 +120,13 @@ impl Names {
         ensures { result.now ≡ self.now.nodes }
     {
         self.nodes.as_slice()
+    }
+
+    /// Whether a name with `*` may exist.
+    pub(crate) fn has_stars(&self) -> bool
+        ensures { result ≡ false → (key : List ℕ) → has_star key ≡ true → None ≡ kinds_under self.now key }
+    {
+        self.stars
     }
 
     /// Makes the hints.

@@ -8,7 +8,7 @@ use Rattle.dns_zone_tree.proofs.names.Names.searched.Goals as goal
 pub count_before-requires : goal.count_before-requires
 count_before-requires c =
     subst (λ (l : List ℕ). AreOrdered l c.as_slice-nodes.result.now) (sym c.as_slice-octets.ensures.value)
-    (subst (λ (l : List Node). AreOrdered c.self.inside.octets.items l) (sym c.as_slice-nodes.ensures.value) c.self.invariant)
+    (subst (λ (l : List Node). AreOrdered c.self.inside.octets.items l) (sym c.as_slice-nodes.ensures.value) c.self.invariant.ordered)
 
 pub returns-in-Some : goal.returns-in-Some
 returns-in-Some c =
@@ -18,7 +18,7 @@ returns-in-Some c =
     let b = c.as_slice-nodes.result.now in
     let ea : a ≡ z.octets = c.as_slice-octets.ensures.value ∙ ap (λ (n : Names). n.octets) c.self.view_is in
     let eb : b ≡ z.nodes = c.as_slice-nodes.ensures.value ∙ ap (λ (n : Names). n.nodes) c.self.view_is in
-    let w = subst (λ (n : Names). AreOrdered n.octets n.nodes) c.self.view_is c.self.invariant in
+    let w = subst (λ (n : Names). AreOrdered n.octets n.nodes) c.self.view_is c.self.invariant.ordered in
     let v = subst (λ (l : List ℕ). AreOrdered l b) (sym ea) (subst (λ (l : List Node). AreOrdered z.octets l) (sym eb) w) in
     let found = found_at a z.none p b c.count_before.result v c.count_before.ensures in
     let n = c.in-Some.node.now in
@@ -36,7 +36,7 @@ returns-in-None c =
     let b = c.as_slice-nodes.result.now in
     let ea : a ≡ z.octets = c.as_slice-octets.ensures.value ∙ ap (λ (n : Names). n.octets) c.self.view_is in
     let eb : b ≡ z.nodes = c.as_slice-nodes.ensures.value ∙ ap (λ (n : Names). n.nodes) c.self.view_is in
-    let w = subst (λ (n : Names). AreOrdered n.octets n.nodes) c.self.view_is c.self.invariant in
+    let w = subst (λ (n : Names). AreOrdered n.octets n.nodes) c.self.view_is c.self.invariant.ordered in
     let v = subst (λ (l : List ℕ). AreOrdered l b) (sym ea) (subst (λ (l : List Node). AreOrdered z.octets l) (sym eb) w) in
     let found = found_at a z.none p b c.count_before.result v c.count_before.ensures in
     ap (kept_by a z.none p) c.in-None.ensures ∙ (sym found ∙ (λ i. kinds_among (ea i) z.none p (eb i)))
