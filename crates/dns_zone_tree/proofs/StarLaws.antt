@@ -1,14 +1,14 @@
 -- Names with `*`, of which there are none if no key has such an octet.
-use Rattle.std.proofs.Common.{◌≡◌, ℕ, ◌-◌, Bool, true, false, List, [], ◌∷◌, ◌++◌, length, take, drop, nat_eq, nat_le, None, refl, ap, sym, ◌∙◌}
+use Rattle.std.proofs.Common.{◌≡◌, ℕ, ◌-◌, Bool, true, false, List, [], ◌∷◌, length, take, drop, nat_eq, nat_le, None, refl, ap, sym, ◌∙◌}
 use Rattle.std.specs.Prelude.{◌||◌, ◌&&◌, if◌then◌else◌}
 use Rattle.std.specs.Cmp.Lexicographic.{bytes_decides}
-use Rattle.std.specs.List.{list_any, slice_range}
+use Rattle.std.specs.List.{slice_range}
 use Rattle.std.proofs.lemmas.Bool.{true≢false, false_from_ne_true}
 use Rattle.std.proofs.lemmas.List.{take-append-drop}
 use Rattle.std.proofs.lemmas.List.Folds.{list_any-append}
 use Rattle.dns_order.specs.Keys.{canonical_key}
 use Rattle.dns_order.proofs.KeyLaws.{keys_begin_alike}
-use Rattle.dns_zone_tree.specs.Nodes.{begins, begins_node, has_star, key_of, kinds_among, node_kinds}
+use Rattle.dns_zone_tree.specs.Nodes.{begins_node, has_star, key_of, kinds_among, node_kinds}
 use Rattle.dns_zone_tree.specs.Wildcards.{star}
 use Rattle.dns_zone_tree.specs.declared.kinds.Kinds.{Kinds}
 use Rattle.dns_zone_tree.specs.declared.names.Node.{Node}

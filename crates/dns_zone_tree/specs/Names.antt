@@ -34,7 +34,8 @@ pub record KnowsNames (n : Names) (rs : List Record) : Type 0 where
 
 -- records within an apex that aren't long, their index, the places of the apex's records, the negative SOA record, also in wire form,
 -- and referrals
-pub record IsTree (apex : List (List ℕ)) (rs : List Record) (n : Names) (top : Kinds) (negative : Record) (denial : List ResourceRecord) (referrals : List Referral) : Type 0 where
+pub record IsTree (apex : List (List ℕ)) (rs : List Record) (n : Names) (top : Kinds) (negative : Record)
+    (denial : List ResourceRecord) (referrals : List Referral) : Type 0 where
   pub lawful : AreLawful rs
   pub within : AllByRecursion (IsInZone apex) rs
   pub short : position is_long rs ≡ None

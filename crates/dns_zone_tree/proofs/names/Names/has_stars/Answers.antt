@@ -1,5 +1,5 @@
-use Rattle.std.proofs.Common.{◌≡◌, false, List, ap, sym, subst, ◌∙◌}
-use Rattle.dns_zone_tree.specs.Nodes.{Names, has_star, kinds_under}
+use Rattle.std.proofs.Common.{◌≡◌, false, ap, sym, ◌∙◌}
+use Rattle.dns_zone_tree.specs.Nodes.{Names, has_star}
 use Rattle.dns_zone_tree.proofs.StarLaws.{none_starred}
 use Rattle.dns_zone_tree.proofs.names.Names.has_stars.Goals as goal
 
