@@ -80,11 +80,11 @@ any_given [] false h = absurd (let k : false ≡ true = h.1 refl in cc)
 any_given (r ∷ rs) true h = absurd (let k : r ∷ rs ≡ [] = h.0 refl in cc)
 any_given (r ∷ rs) false h = refl
 
-pub denied_is : (z : ZoneState) (given authority : List ResourceRecord) (negative : Record) (code : ℕ) → map negative_soa (filter (is_of 6) z.records) ≡ negative ∷ [] → authority ≡ record_of negative ∷ [] →
+pub denied_is : (z : ZoneState) (given authority : List ResourceRecord) (code : ℕ) → authority ≡ map record_of (map negative_soa (filter (is_of 6) z.records)) →
     behind given (wired (denied z code)) ≡ record { aa = true; rcode = code; answers = given; authority = authority; additional = [] }
-denied_is z given authority negative code s e =
+denied_is z given authority code e =
     let f : Bool → List ResourceRecord → List ResourceRecord → WireReply = λ b l m. record { aa = b; rcode = code; answers = l; authority = m; additional = [] } in
-    (λ i. f (or_true (are_any given) i) (append-nil given i) ((ap (map record_of) s ∙ sym e) i))
+    (λ i. f (or_true (are_any given) i) (append-nil given i) (sym e i))
 
 -- ---- answers that are pushed straight into a reply
 

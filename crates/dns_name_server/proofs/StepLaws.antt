@@ -1,8 +1,8 @@
 -- The steps of a chain of aliases.
-use Rattle.std.proofs.Common.{◌≡◌, ℕ, suc, ◌+◌, ◌-◌, ◌<◌, Bool, true, false, List, [], ◌∷◌, ◌++◌, length, map, drop, take, get_or, Option, Some, None, refl, ap, sym, subst, ◌∙◌, arith, append_assoc, append-nil, length-append}
+use Rattle.std.proofs.Common.{◌≡◌, ℕ, suc, ◌+◌, ◌-◌, ◌<◌, Bool, true, false, List, [], ◌∷◌, ◌++◌, length, map, drop, take, get_or, Option, Some, None, refl, ap, sym, ◌∙◌, arith, append_assoc, append-nil, length-append}
 use Rattle.std.specs.Prelude.{◌||◌, if◌then◌else◌, is_some, option_map}
-use Rattle.std.specs.List.{cons_option, slice_get}
-use Rattle.std.proofs.lemmas.List.{map-append, take_more}
+use Rattle.std.specs.List.{slice_get}
+use Rattle.std.proofs.lemmas.List.{map-append}
 use Rattle.std.proofs.lemmas.List.Elements.{filter_map-append}
 use Rattle.dns_name.specs.Names.{name_under}
 use Rattle.dns_base.specs.Msg.{ResourceRecord}
@@ -270,39 +270,6 @@ give_next rs name t ks i d old now new h e f =
     ∙ (ap (λ (l : List ResourceRecord). l ++ given_at rs name one) e
     ∙ (append_assoc old (given_at rs name (places_of t (take i ks))) (given_at rs name one)
     ∙ ap (λ (l : List ResourceRecord). old ++ l) (sym (ap (given_at rs name) (places_next t ks i d h) ∙ given_join rs name (places_of t (take i ks)) one))))
-
--- and as they are
-place_join : (rs : List Record) (xs ys : List ℕ) → map record_of (at_places rs (xs ++ ys)) ≡ map record_of (at_places rs xs) ++ map record_of (at_places rs ys)
-place_join rs xs ys = ap (map record_of) (filter_map-append (slice_get rs) xs ys) ∙ map-append record_of (at_places rs xs) (at_places rs ys)
-
-pub add_one : (rs : List Record) (place : ℕ) (r : Record) (old new : List ResourceRecord) → Some r ≡ slice_get rs place → new ≡ old ++ record_of r ∷ [] → new ≡ old ++ map record_of (at_places rs (place ∷ []))
-add_one rs place r old new e g = g ∙ ap (λ (o : Option Record). old ++ map record_of (cons_option o [])) e
-
-pub add_no : (rs : List Record) (place : ℕ) (old : List ResourceRecord) → None ≡ slice_get rs place → old ≡ old ++ map record_of (at_places rs (place ∷ []))
-add_no rs place old e = sym (append-nil old) ∙ ap (λ (o : Option Record). old ++ map record_of (cons_option o [])) e
-
-pub add_next : (rs : List Record) (is : List ℕ) (i : ℕ) (old now new : List ResourceRecord) → i < length is → now ≡ old ++ map record_of (at_places rs (take i is)) → new ≡ now ++ map record_of (at_places rs (get_or is i 0 ∷ [])) → new ≡ old ++ map record_of (at_places rs (take (i + 1) is))
-add_next rs is i old now new h e f =
-    f
-    ∙ (ap (λ (l : List ResourceRecord). l ++ map record_of (at_places rs (get_or is i 0 ∷ []))) e
-    ∙ (append_assoc old (map record_of (at_places rs (take i is))) (map record_of (at_places rs (get_or is i 0 ∷ [])))
-    ∙ ap (λ (l : List ResourceRecord). old ++ l) (sym (ap (λ (x : List ℕ). map record_of (at_places rs x)) (take_more is i 0 h) ∙ place_join rs (take i is) (get_or is i 0 ∷ [])))))
-
--- those of a type
-pub add_some : (rs : List Record) (is : List ℕ) (r : Record) (old new : List ResourceRecord) → at_places rs is ≡ r ∷ [] → new ≡ old ++ record_of r ∷ [] → new ≡ old ++ map record_of (at_places rs is)
-add_some rs is r old new e g = g ∙ ap (λ (l : List Record). old ++ map record_of l) (sym e)
-
-pub add_none : (rs : List Record) (is : List ℕ) (old : List ResourceRecord) → at_places rs is ≡ [] → old ≡ old ++ map record_of (at_places rs is)
-add_none rs is old e = sym (append-nil old) ∙ ap (λ (l : List Record). old ++ map record_of l) (sym e)
-
-pub kinds_next : (rs : List Record) (t : ℕ) (ks : List TypedPlace) (i : ℕ) (d : TypedPlace) (old now new : List ResourceRecord) → i < length ks → now ≡ old ++ map record_of (at_places rs (places_of t (take i ks))) →
-    new ≡ now ++ map record_of (at_places rs (places_of t (get_or ks i d ∷ []))) → new ≡ old ++ map record_of (at_places rs (places_of t (take (i + 1) ks)))
-kinds_next rs t ks i d old now new h e f =
-    let one = places_of t (get_or ks i d ∷ []) in
-    f
-    ∙ (ap (λ (l : List ResourceRecord). l ++ map record_of (at_places rs one)) e
-    ∙ (append_assoc old (map record_of (at_places rs (places_of t (take i ks)))) (map record_of (at_places rs one))
-    ∙ ap (λ (l : List ResourceRecord). old ++ l) (sym (ap (λ (x : List ℕ). map record_of (at_places rs x)) (places_next t ks i d h) ∙ place_join rs (places_of t (take i ks)) one))))
 
 -- ---- chains
 

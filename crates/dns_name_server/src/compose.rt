@@ -1,22 +1,20 @@
 //! Replies as they are built.
 
-ghost use Rattle.std.specs.Prelude.{◌≡◌, ◌++◌, ◌∷◌, [], true, map, if◌then◌else◌, IfOk, OnOk};
+ghost use Rattle.std.specs.Prelude.{◌≡◌, ◌∷◌, [], ℕ, List, true, map, if◌then◌else◌};
 ghost use Rattle.dns_base.specs.declared.draft.Section.TheVariants.{Answer};
 ghost use Rattle.dns_base.specs.Builds.{Becomes, Builds, KeepsLimit, unlimited, with_records};
 ghost use Rattle.dns_base.specs.Records.{record_of};
-ghost use Rattle.dns_zone.specs.Owned.{AreLawful};
+ghost use Rattle.dns_zone.specs.Owned.{AreLawful, ZoneState};
 ghost use Rattle.dns_zone.specs.Places.{at_places};
 ghost use Rattle.dns_zone.specs.ZoneReply.{authoritative, denied, referral};
 ghost use Rattle.dns_zone_tree.specs.Kinds.{kind_places, places_of};
+ghost use Rattle.dns_zone_tree.specs.Referrals.{IsReferral};
 ghost use Rattle.dns_name_server.specs.Steps.{behind, end_reply, wire_message, wired};
 
 use crate::step::End;
-use dns_base::{
-    AdditionalBuilder, AnswerBuilder, Message, PushError, Rcode, Record, Rtype, WireRecords,
-};
-use dns_name::OutOfMemory;
+use dns_base::{AdditionalBuilder, AnswerBuilder, Message, PushError, Rcode, Record, WireRecords};
 use dns_zone::begin_reply;
-use dns_zone_tree::{Kinds, TypedPlace, ZoneTree, record_at};
+use dns_zone_tree::{Kinds, Referral, TypedPlace, ZoneTree};
 use std::alloc::Global;
 
 /// A reply to a query that has these records.
@@ -40,72 +38,6 @@ fn built(
     Ok(last)
 }
 
-/// Adds the record at a place, if there is one.
-fn add_place(
-    alloc: Global,
-    records: &[Record],
-    place: usize,
-    into: &mut WireRecords,
-) -> Result<(), OutOfMemory>
-    requires { AreLawful records.now }
-    ensures { OnOk result (into.new ≡ into.old ++ map record_of (at_places records.now (place ∷ []))) }
-{
-    match record_at(records, place) {
-        Some(record) => into.push(alloc, record),
-        None => Ok(()),
-    }
-}
-
-/// The records at places.
-fn wire_places(
-    alloc: Global,
-    records: &[Record],
-    places: &[usize],
-) -> Result<WireRecords, OutOfMemory>
-    requires { AreLawful records.now }
-    ensures { IfOk result (λ w. w ≡ map record_of (at_places records.now places.now)) }
-{
-    let mut all = WireRecords::new(alloc);
-    'each: for place in places {
-        add_place(alloc, records, *place, &mut all)?;
-    }
-    Ok(all)
-}
-
-/// Adds the record at a place, if it is of a type.
-fn add_kind(
-    alloc: Global,
-    records: &[Record],
-    kind: &TypedPlace,
-    rtype: u16,
-    into: &mut WireRecords,
-) -> Result<(), OutOfMemory>
-    requires { AreLawful records.now }
-    ensures { OnOk result (into.new ≡ into.old ++ map record_of (at_places records.now (places_of rtype (kind.now ∷ [])))) }
-{
-    match kind.record(records, rtype) {
-        Some(record) => into.push(alloc, record),
-        None => Ok(()),
-    }
-}
-
-/// Adds the records of a type at places, one after another.
-fn add_kinds(
-    alloc: Global,
-    records: &[Record],
-    kinds: &[TypedPlace],
-    rtype: u16,
-    into: &mut WireRecords,
-) -> Result<(), OutOfMemory>
-    requires { AreLawful records.now }
-    ensures { OnOk result (into.new ≡ into.old ++ map record_of (at_places records.now (places_of rtype kinds.now))) }
-{
-    'each: for kind in kinds {
-        add_kind(alloc, records, kind, rtype, into)?;
-    }
-    Ok(())
-}
-
 /// The answers that are given, and nothing more.
 fn alone(
     alloc: Global,
@@ -120,6 +52,27 @@ fn alone(
     built(alloc, query, (rcode, true), given, &none, &none)
 }
 
+/// The answers that are given, and a referral.
+fn referred_by(
+    alloc: Global,
+    query: &Message,
+    given: &WireRecords,
+    kept: &Referral,
+) -> Result<AdditionalBuilder, PushError>
+    ensures { (z : ZoneState) (servers : List ℕ) → IsReferral z servers kept.now → Builds (unlimited (wire_message query.now
+        (behind given.now (wired (referral z (at_places z.records servers)))))) result }
+{
+    let aa = !given.is_empty();
+    built(
+        alloc,
+        query,
+        (Rcode::NOERROR, aa),
+        given,
+        &kept.authority,
+        &kept.additional,
+    )
+}
+
 /// The answers that are given, and a referral to the name servers of a cut.
 fn referred(
     zone: &ZoneTree,
@@ -131,25 +84,13 @@ fn referred(
     ensures { Builds (unlimited (wire_message query.now
         (behind given.now (wired (referral zone.now (at_places zone.now.records (kind_places 2 cut.now))))))) result }
 {
-    let glue = zone.glue(alloc, cut)?;
-    let mut authority = WireRecords::new(alloc);
-    add_kinds(
-        alloc,
-        zone.records(),
-        cut.as_slice(),
-        Rtype::NS.to_int(),
-        &mut authority,
-    )?;
-    let additional = wire_places(alloc, zone.records(), glue.as_slice())?;
-    let aa = !given.is_empty();
-    built(
-        alloc,
-        query,
-        (Rcode::NOERROR, aa),
-        given,
-        &authority,
-        &additional,
-    )
+    match zone.referral(cut) {
+        Some(kept) => referred_by(alloc, query, given, kept),
+        None => {
+            let made = zone.make_referral(alloc, cut)?;
+            referred_by(alloc, query, given, &made)
+        }
+    }
 }
 
 /// The response code of a negative answer.
@@ -173,16 +114,8 @@ fn denied(
     ensures { Builds (unlimited (wire_message query.now (behind given.now (wired (denied zone.now (if there then 0 else 3)))))) result }
 {
     let none = WireRecords::new(alloc);
-    let mut authority = WireRecords::new(alloc);
-    authority.push(alloc, zone.negative())?;
-    built(
-        alloc,
-        query,
-        (negative_code(there), true),
-        given,
-        &authority,
-        &none,
-    )
+    let code = (negative_code(there), true);
+    built(alloc, query, code, given, zone.denial(), &none)
 }
 
 /// Adds the record at a place to the answers of a reply, if it is of a type.

@@ -146,7 +146,7 @@ module _ (z : ZoneState) (h : AreLawful z.records) where
 
   -- ---- what signing adds
 
-  of_lawful : (all : List Record) (r : Record) → AreLawful (rrsigs_of z all r)
+  pub of_lawful : (all : List Record) (r : Record) → AreLawful (rrsigs_of z all r)
   of_lawful all r =
       let had = reached_records z r.owner (had_records z r.owner 46) in
       either_lawful (have_signatures all r.owner) [] (map (timed r) (filter (is_signature (data_type r.rdata)) had)) tt

@@ -10,3 +10,4 @@ pub mod RrsigLaws
 pub mod NearLaws
 pub mod LawfulLaws
 pub mod RoomLaws
+pub mod DirectLaws

@@ -26,7 +26,6 @@ use Rattle.dns_denial.specs.Chains.{IsWhole, is_below_cut}
 use Rattle.dns_denial.specs.Checks.{is_placed}
 use Rattle.dns_denial.specs.Denials.{AllBehind, IsAnswered, IsLast, is_under_dname}
 use Rattle.dns_denial.specs.Nsecs.{AreSorted, NsecState, is_up_to}
-use Rattle.dns_denial.specs.Signed.{is_beside}
 use Rattle.dns_denial.proofs.AcceptedLaws.{had_some, there}
 use Rattle.dns_denial.proofs.ListLaws.{found, present, some_any}
 use Rattle.dns_denial.proofs.NameLaws.{ends_short, ends_tail, ends_trans, same_back, same_ends, same_length}
@@ -87,12 +86,9 @@ module _ (z : ZoneState) (ns : List NsecState) (given : List Record) where
 pub nsec_added : (z : ZoneState) (n : NsecState) (old as_old found more new : List Record) → as_old ≡ old → found ≡ owned_records z n.owner 47 → more ≡ others as_old found → new ≡ old ++ more → new ≡ nsec_records_of z old (n ∷ [])
 nsec_added z n old as_old found more new o f m e = e ∙ ap (λ (l : List Record). old ++ l) (m ∙ (λ i. others (o i) (f i)))
 
-pub others_joined : (given xs ys : List Record) → others given (xs ++ ys) ≡ others given xs ++ others given ys
-others_joined given xs ys = filter-append (λ (r : Record). not (list_any (is_beside r) given)) xs ys
-
 -- ---- whether a type is given
 
-not_zero : (n : ℕ) → 0 < n → not (n == 0) ≡ true
+pub not_zero : (n : ℕ) → 0 < n → not (n == 0) ≡ true
 not_zero n h = let k : (n == 0) ≡ false = grind (arith, nat_tests) in ap not k
 
 is_zero : (n : ℕ) → n ≡ 0 → not (n == 0) ≡ false

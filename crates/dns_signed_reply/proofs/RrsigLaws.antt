@@ -81,7 +81,7 @@ module _ (z : ZoneState) (all seen : List Record) (r : Record) (old : List Recor
   of_signed : have_signatures all r.owner ≡ true → rrsigs_of z all r ≡ []
   of_signed e = ap (λ (b : Bool). if b then [] else map (timed r) (filter (is_signature (data_type r.rdata)) (reached_records z r.owner (had_records z r.owner 46)))) e
 
-  of_unsigned : have_signatures all r.owner ≡ false → rrsigs_of z all r ≡ map (timed r) (filter (is_signature (data_type r.rdata)) (reached_records z r.owner (had_records z r.owner 46)))
+  pub of_unsigned : have_signatures all r.owner ≡ false → rrsigs_of z all r ≡ map (timed r) (filter (is_signature (data_type r.rdata)) (reached_records z r.owner (had_records z r.owner 46)))
   of_unsigned e = ap (λ (b : Bool). if b then [] else map (timed r) (filter (is_signature (data_type r.rdata)) (reached_records z r.owner (had_records z r.owner 46)))) e
 
   first_one : (rs : List Record) → list_any (is_beside r) seen ≡ false → rrsigs_of z all r ≡ rs → (if list_any (is_beside r) seen then [] else rrsigs_of z all r) ≡ rs

@@ -5,5 +5,6 @@ pub use Rattle.dns_name_server.specs.NameServerReplies
 pub use Rattle.dns_signed_zone.specs.SignedZones
 pub use Rattle.dns_opt.specs.OptRecords
 pub mod SignedReplies
+pub mod DirectReplies
 pub mod ReplyLaws
 pub mod PlainReplies

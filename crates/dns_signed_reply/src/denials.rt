@@ -1,6 +1,6 @@
 //! The NSEC records that prove what a reply says is absent.
 
-ghost use Rattle.std.specs.Prelude.{◌≡◌, ◌++◌, ◌∷◌, [], false, if◌then◌else◌, ℕ, List, IfOk, OnOk, IsTrue, Option};
+ghost use Rattle.std.specs.Prelude.{◌≡◌, ◌∷◌, [], false, if◌then◌else◌, ℕ, List, IfOk, OnOk, IsTrue, Option};
 ghost use Rattle.std.specs.List.{flat_map};
 ghost use Rattle.std.specs.Option.{option_copied};
 ghost use Rattle.dns_route.specs.Routes.{ends_name};
@@ -9,7 +9,7 @@ ghost use Rattle.dns_zone.specs.Places.{at_places};
 ghost use Rattle.dns_zone.specs.ZoneReply.{exists};
 ghost use Rattle.dns_zone_tree.specs.Kinds.{kind_places};
 ghost use Rattle.dns_zone_tree.specs.Regions.{BelowCut, asked_region};
-ghost use Rattle.dns_zone_tree.specs.Walks.{ReachesNode, ReachesNone};
+ghost use Rattle.dns_zone_tree.specs.Walks.{EndsAt, ReachesNode, ReachesNone};
 ghost use Rattle.dns_zone_tree.specs.Wildcards.{are_some, wildcard};
 ghost use Rattle.dns_denial.specs.Checks.{is_placed};
 ghost use Rattle.dns_denial.specs.Denials.{IsAnswered};
@@ -54,32 +54,11 @@ fn gives(kinds: Option<&Kinds>, rtype: u16) -> bool
     }
 }
 
-/// Adds a copy of a record, if some don't have its RRset.
-fn add_other(
-    alloc: Global,
-    given: &[Record],
-    one: &Record,
-    into: &mut Vec<Record>,
-) -> Result<(), OutOfMemory>
-    ensures { OnOk result (into.new.items ≡ into.old.items ++ others given.now (one.now ∷ [])) }
+/// Leaves out the records whose RRset some have.
+fn leave_out(given: &[Record], records: &mut Vec<Record>)
+    ensures { records.new.items ≡ others given.now records.old.items }
 {
-    if has_beside(given, one) {
-        return Ok(());
-    }
-    let copy = one.try_clone(alloc)?;
-    into.push(copy)?;
-    Ok(())
-}
-
-/// The records whose RRset some don't have.
-fn others(alloc: Global, given: &[Record], records: &[Record]) -> Result<Vec<Record>, OutOfMemory>
-    ensures { IfOk result (λ v. v.items ≡ others given.now records.now) }
-{
-    let mut found = Vec::new(alloc);
-    'each: for one in records {
-        add_other(alloc, given, one, &mut found)?;
-    }
-    Ok(found)
+    records.retain(|one| !has_beside(given, one));
 }
 
 /// Adds the NSEC records of an NSEC, unless they are there.
@@ -91,9 +70,9 @@ fn add_nsec(
 ) -> Result<(), OutOfMemory>
     ensures { OnOk result (into.new.items ≡ nsec_records_of zone.now into.old.items (nsec.now ∷ [])) }
 {
-    let found = owned_records(zone, alloc, &nsec.owner().for_ref(), NSEC)?;
-    let mut more = others(alloc, into.as_slice(), found.as_slice())?;
-    into.append(&mut more)?;
+    let mut found = owned_records(zone, alloc, &nsec.owner().for_ref(), NSEC)?;
+    leave_out(into.as_slice(), &mut found);
+    into.append(&mut found)?;
     Ok(())
 }
 
@@ -219,6 +198,28 @@ fn deny_ds(
     }
 }
 
+/// Adds the NSEC records that prove what the reply says of a name, given what a walk to it for a type ended at.
+fn deny_found(
+    zone: &SignedZone,
+    alloc: Global,
+    name: &NameRef<'_>,
+    rtype: u16,
+    found: &Walk<'_>,
+    into: &mut Vec<Record>,
+) -> Result<(), OutOfMemory>
+    requires inside { IsTrue (ends_name name.now zone.now.zone.apex) }
+    requires ends { EndsAt zone.now.zone rtype name.now found.now }
+    ensures { OnOk result (into.new.items ≡ nsec_records_of zone.now.zone into.old.items
+        (flat_map (nearest zone.now.nsecs) (denied zone.now.zone rtype name.now))) }
+{
+    match found {
+        Walk::Node(kinds) => deny_type(zone, alloc, name, rtype, kinds, into),
+        Walk::Missing(skipped) => deny_missing(zone, alloc, name, rtype, *skipped, into),
+        Walk::Cut(kinds) => deny_ds(zone, alloc, kinds, into),
+        Walk::Dname(_) => Ok(()),
+    }
+}
+
 /// Adds the NSEC records that prove what the reply says of a name, if a type is asked for.
 fn deny_name(
     zone: &SignedZone,
@@ -233,12 +234,7 @@ fn deny_name(
 {
     let tree = zone.zone();
     let found = tree.walk(alloc, name, rtype)?;
-    match found {
-        Walk::Node(kinds) => deny_type(zone, alloc, name, rtype, kinds, into),
-        Walk::Missing(skipped) => deny_missing(zone, alloc, name, rtype, skipped, into),
-        Walk::Cut(kinds) => deny_ds(zone, alloc, kinds, into),
-        Walk::Dname(_) => Ok(()),
-    }
+    deny_found(zone, alloc, name, rtype, &found, into)
 }
 
 /// Adds the NSEC records for a name, if it is in the zone.
@@ -293,23 +289,27 @@ fn deny_targets(
     Ok(())
 }
 
-/// The NSEC records that prove what is absent of the name of a question, and of the targets of the aliases among answers.
+/// The NSEC records that prove what is absent of the name of a question, and of the targets of the aliases among answers. What a
+/// walk to the name ended at is given.
 pub(crate) fn denials(
     zone: &SignedZone,
     alloc: Global,
     question: &QuestionRef<'_>,
+    name: &NameRef<'_>,
+    found: &Walk<'_>,
     answers: &[Record],
 ) -> Result<Vec<Record>, OutOfMemory>
-    requires { IsTrue (ends_name question.now.qname zone.now.zone.apex) }
+    requires inside { IsTrue (ends_name question.now.qname zone.now.zone.apex) }
+    requires named { name.now ≡ question.now.qname }
+    requires ends { EndsAt zone.now.zone question.now.qtype name.now found.now }
     ensures { IfOk result (λ v. v.items ≡ denials zone.now question.now answers.now) }
 {
     let rtype = question.qtype().to_int();
-    let name = question.qname().to_name(alloc)?;
-    let mut found = Vec::new(alloc);
-    deny_name(zone, alloc, &name.for_ref(), rtype, &mut found)?;
+    let mut given = Vec::new(alloc);
+    deny_found(zone, alloc, name, rtype, found, &mut given)?;
     if follows(rtype) {
-        deny_targets(zone, alloc, rtype, answers, &mut found)?;
-        return Ok(found);
+        deny_targets(zone, alloc, rtype, answers, &mut given)?;
+        return Ok(given);
     }
-    Ok(found)
+    Ok(given)
 }

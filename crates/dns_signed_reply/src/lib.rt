@@ -34,6 +34,7 @@
 
 mod chain;
 mod denials;
+mod direct;
 mod laws;
 mod names;
 mod plain;

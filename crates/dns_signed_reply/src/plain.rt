@@ -1,6 +1,7 @@
 //! A reply as it is made: its records, not written yet.
 
 ghost use Rattle.std.specs.Prelude.{◌≡◌, ◌||◌, IfOk};
+ghost use Rattle.dns_zone.specs.Cuts.{glue};
 ghost use Rattle.dns_zone.specs.Places.{at_places};
 ghost use Rattle.dns_zone.specs.ZoneReply.{authoritative, denied, referral};
 ghost use Rattle.dns_zone_tree.specs.Kinds.{kind_places};
@@ -76,6 +77,19 @@ pub(crate) fn own_reply(
     Ok(authoritative(alloc, records))
 }
 
+/// The addresses of the hosts that the NS records of a cut name.
+fn glue_of(zone: &ZoneTree, alloc: Global, cut: &Kinds) -> Result<Vec<Record>, OutOfMemory>
+    ensures { IfOk result (λ v. v.items ≡ glue zone.now (at_places zone.now.records (kind_places 2 cut.now))) }
+{
+    match zone.referral(cut) {
+        Some(kept) => at_places(alloc, zone.records(), kept.glue.as_slice()),
+        None => {
+            let places = zone.glue(alloc, cut)?;
+            at_places(alloc, zone.records(), places.as_slice())
+        }
+    }
+}
+
 /// A referral to the name servers of a cut, with their addresses.
 pub(crate) fn referral(
     zone: &ZoneTree,
@@ -85,8 +99,7 @@ pub(crate) fn referral(
     ensures { IfOk result (λ p. said p ≡ referral zone.now (at_places zone.now.records (kind_places 2 cut.now))) }
 {
     let authority = of_node(zone, alloc, cut, Rtype::NS.to_int())?;
-    let places = zone.glue(alloc, cut)?;
-    let additional = at_places(alloc, zone.records(), places.as_slice())?;
+    let additional = glue_of(zone, alloc, cut)?;
     let answers = Vec::new(alloc);
     Ok(PlainReply {
         aa: false,

@@ -2,6 +2,7 @@
 
 ghost use Rattle.std.specs.Prelude.{◌≡◌, ◌++◌, ◌∷◌, [], ℕ, map, IfOk, OnOk, IsTrue};
 ghost use Rattle.std.specs.List.{list_any};
+ghost use Rattle.std.specs.Option.{option_copied};
 ghost use Rattle.dns_route.specs.Routes.{ends_name};
 ghost use Rattle.dns_zone.specs.Owned.{asked_records};
 ghost use Rattle.dns_zone.specs.Places.{at_places};
@@ -10,7 +11,8 @@ ghost use Rattle.dns_zone_tree.specs.Regions.{asked_region};
 ghost use Rattle.dns_zone_tree.specs.Walks.{ReachesNone};
 ghost use Rattle.dns_zone_tree.specs.Wildcards.{given_as, had_records};
 ghost use Rattle.dns_denial.specs.Signed.{is_beside};
-ghost use Rattle.dns_signed_reply.specs.SignedReplies.{if_within, owned_records, reached_records};
+ghost use Rattle.dns_name_server.specs.Steps.{head_of};
+ghost use Rattle.dns_signed_reply.specs.SignedReplies.{if_within, owned_records};
 
 use dns_base::{NameRef, Record};
 use dns_name::OutOfMemory;
@@ -19,7 +21,7 @@ use dns_zone_tree::{Kinds, TypedPlace, Walk, ZoneTree, record_at};
 use std::alloc::Global;
 
 /// The type whose walk passes a delegation point (RFC 4035, section 3.1.4.1).
-const DS: u16 = 43;
+pub(crate) const DS: u16 = 43;
 
 /// Records, and others after them.
 pub(crate) fn extended(records: Vec<Record>, more: Vec<Record>) -> Result<Vec<Record>, OutOfMemory>
@@ -65,6 +67,22 @@ fn at_kinds(
         add_kind(alloc, records, kind, rtype, &mut found)?;
     }
     Ok(found)
+}
+
+/// The first record of a type at places.
+pub(crate) fn first_of<'a>(
+    records: &'a [Record],
+    kinds: &[TypedPlace],
+    rtype: u16,
+) -> Option<&'a Record>
+    ensures { option_copied result ≡ head_of (at_places records.now (places_of rtype kinds.now)) }
+{
+    'each: for kind in kinds {
+        if let Some(record) = kind.record(records, rtype) {
+            return Some(record);
+        }
+    }
+    None
 }
 
 /// The records of a type at the places of a name.
@@ -217,7 +235,7 @@ pub(crate) fn owned_records(
 }
 
 /// The records of a type of the wildcard that stands for a name, as the name's.
-fn of_missing(
+pub(crate) fn of_missing(
     zone: &ZoneTree,
     alloc: Global,
     name: &NameRef<'_>,
@@ -231,41 +249,6 @@ fn of_missing(
         Some(kinds) => of_wildcard(zone, alloc, kinds, rtype, name),
         None => Ok(Vec::new(alloc)),
     }
-}
-
-/// The records of a type that a name in the zone has, if the zone has authority over it.
-fn had_within(
-    zone: &ZoneTree,
-    alloc: Global,
-    name: &NameRef<'_>,
-    rtype: u16,
-) -> Result<Vec<Record>, OutOfMemory>
-    requires { IsTrue (ends_name name.now zone.now.apex) }
-    ensures { IfOk result (λ v. v.items ≡ if_within (asked_region zone.now 43 name.now) (had_records zone.now name.now rtype)) }
-{
-    let found = zone.walk(alloc, name, DS)?;
-    match found {
-        Walk::Node(kinds) => of_node(zone, alloc, kinds, rtype),
-        Walk::Missing(skipped) => of_missing(zone, alloc, name, skipped, rtype),
-        Walk::Cut(_) => Ok(Vec::new(alloc)),
-        Walk::Dname(_) => Ok(Vec::new(alloc)),
-    }
-}
-
-/// The records of a type that a name has, its own or those of the wildcard that stands for it. The zone has to have authority over
-/// it.
-pub(crate) fn had_records(
-    zone: &ZoneTree,
-    alloc: Global,
-    name: &NameRef<'_>,
-    rtype: u16,
-) -> Result<Vec<Record>, OutOfMemory>
-    ensures { IfOk result (λ v. v.items ≡ reached_records zone.now name.now (had_records zone.now name.now rtype)) }
-{
-    if is_in_zone(zone, name) {
-        return had_within(zone, alloc, name, rtype);
-    }
-    Ok(Vec::new(alloc))
 }
 
 /// Whether two records are of one RRset.

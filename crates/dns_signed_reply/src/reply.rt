@@ -1,11 +1,12 @@
 //! The reply.
 
-ghost use Rattle.std.specs.Prelude.{◌≡◌, ◌++◌, map, take, true, if◌then◌else◌, IfOk, IsTrue};
+ghost use Rattle.std.specs.Prelude.{◌≡◌, ◌++◌, map, take, true, if◌then◌else◌, IfOk, IsTrue, OnOk};
 ghost use Rattle.dns_base.specs.Builds.{Builds, unlimited};
 ghost use Rattle.dns_base.specs.Records.{record_of};
 ghost use Rattle.dns_route.specs.Routes.{ends_name};
 ghost use Rattle.dns_zone.specs.Owned.{AreLawful};
 ghost use Rattle.dns_zone.specs.ZoneTurns.{zone_message};
+ghost use Rattle.dns_zone_tree.specs.Walks.{EndsAt};
 ghost use Rattle.dns_name_server.specs.NameServerReplies.{name_server_reply};
 ghost use Rattle.dns_name_server.specs.Steps.{wire_message};
 ghost use Rattle.dns_signed_reply.specs.SignedReplies.{as_room, asks_do, denials, do_reply, ds_of, secure_reply};
@@ -13,16 +14,19 @@ ghost use Rattle.dns_signed_reply.specs.PlainReplies.{AreAllLawful, keeps_room, 
 
 use crate::chain::plain_reply;
 use crate::denials::denials;
+use crate::direct::{direct_reply, is_direct};
 use crate::plain::PlainReply;
 use crate::records::{extended, owned_records};
 use crate::rrsigs::with_rrsigs;
-use dns_base::{AdditionalBuilder, Message, PushError, QuestionRef, Record, Rtype, WireRecords};
+use dns_base::{
+    AdditionalBuilder, Message, NameRef, PushError, QuestionRef, Record, Rtype, WireRecords,
+};
 use dns_name::OutOfMemory;
 use dns_name_server::name_server_reply;
 use dns_opt::MessageOpt;
 use dns_signed_zone::SignedZone;
 use dns_zone::begin_reply;
-use dns_zone_tree::ZoneTree;
+use dns_zone_tree::{Walk, ZoneTree};
 use std::alloc::Global;
 
 /// Whether a query has an OPT record with DO (RFC 3225, section 3).
@@ -47,20 +51,24 @@ fn ds_of(zone: &ZoneTree, alloc: Global, authority: &[Record]) -> Result<Vec<Rec
     }
 }
 
-/// The authority section with its DS and NSEC records.
+/// The authority section with its DS and NSEC records, given what a walk to the name of a question ended at.
 fn proved_authority(
     zone: &SignedZone,
     alloc: Global,
     question: &QuestionRef<'_>,
+    name: &NameRef<'_>,
+    found: &Walk<'_>,
     answers: &[Record],
     authority: Vec<Record>,
 ) -> Result<Vec<Record>, OutOfMemory>
-    requires { IsTrue (ends_name question.now.qname zone.now.zone.apex) }
+    requires inside { IsTrue (ends_name question.now.qname zone.now.zone.apex) }
+    requires named { name.now ≡ question.now.qname }
+    requires ends { EndsAt zone.now.zone question.now.qtype name.now found.now }
     ensures { IfOk result (λ v. v.items ≡ (authority.items ++ ds_of zone.now.zone authority.items)
         ++ denials zone.now question.now answers.now) }
 {
     let ds = ds_of(zone.zone(), alloc, authority.as_slice())?;
-    let nsecs = denials(zone, alloc, question, answers)?;
+    let nsecs = denials(zone, alloc, question, name, found, answers)?;
     let referred = extended(authority, ds)?;
     extended(referred, nsecs)
 }
@@ -70,9 +78,13 @@ fn do_reply(
     zone: &SignedZone,
     alloc: Global,
     question: &QuestionRef<'_>,
+    name: &NameRef<'_>,
+    found: &Walk<'_>,
     plain: PlainReply,
 ) -> Result<PlainReply, OutOfMemory>
-    requires { IsTrue (ends_name question.now.qname zone.now.zone.apex) }
+    requires inside { IsTrue (ends_name question.now.qname zone.now.zone.apex) }
+    requires named { name.now ≡ question.now.qname }
+    requires ends { EndsAt zone.now.zone question.now.qtype name.now found.now }
     ensures { IfOk result (λ p. said p ≡ do_reply zone.now question.now (said plain)) }
 {
     let PlainReply {
@@ -82,7 +94,15 @@ fn do_reply(
         authority,
         additional,
     } = plain;
-    let proved = proved_authority(zone, alloc, question, answers.as_slice(), authority)?;
+    let proved = proved_authority(
+        zone,
+        alloc,
+        question,
+        name,
+        found,
+        answers.as_slice(),
+        authority,
+    )?;
     let tree = zone.zone();
     let answers = with_rrsigs(tree, alloc, answers)?;
     let authority = with_rrsigs(tree, alloc, proved)?;
@@ -96,20 +116,33 @@ fn do_reply(
     })
 }
 
+/// Adds records as they are written.
+pub(crate) fn add_written(
+    alloc: Global,
+    records: &[Record],
+    into: &mut WireRecords,
+) -> Result<(), OutOfMemory>
+    requires { AreLawful records.now }
+    ensures { OnOk result (into.new ≡ into.old ++ map record_of records.now) }
+{
+    'each: for record in records {
+        into.push(alloc, record)?;
+    }
+    Ok(())
+}
+
 /// Records as they are written.
 fn written(alloc: Global, records: &[Record]) -> Result<WireRecords, OutOfMemory>
     requires { AreLawful records.now }
     ensures { IfOk result (λ w. w ≡ map record_of records.now) }
 {
     let mut all = WireRecords::new(alloc);
-    'each: for record in records {
-        all.push(alloc, record)?;
-    }
+    add_written(alloc, records, &mut all)?;
     Ok(all)
 }
 
 /// A reply to a query, with the response code and AA of a reply, that has these records.
-fn built(
+pub(crate) fn built(
     alloc: Global,
     query: &Message,
     reply: &PlainReply,
@@ -184,6 +217,31 @@ fn first_written(
     written(alloc, records)
 }
 
+/// The reply with RRSIGs, made from that without, given what a walk to the name of a question ended at.
+fn walked_reply(
+    zone: &SignedZone,
+    alloc: Global,
+    query: &Message,
+    question: &QuestionRef<'_>,
+    name: &NameRef<'_>,
+    found: &Walk<'_>,
+    room: u16,
+) -> Result<AdditionalBuilder, PushError>
+    requires inside { IsTrue (ends_name question.now.qname zone.now.zone.apex) }
+    requires named { name.now ≡ question.now.qname }
+    requires ends { EndsAt zone.now.zone question.now.qtype name.now found.now }
+    ensures { Builds (unlimited (zone_message query.now
+        (as_room room query.now (name_server_reply zone.now.zone question.now).additional
+        (do_reply zone.now question.now (name_server_reply zone.now.zone question.now))))) result }
+{
+    let tree = zone.zone();
+    let _lawful = tree.records();
+    let plain = plain_reply(tree, alloc, question)?;
+    let unsigned = plain.additional.len();
+    let signed = do_reply(zone, alloc, question, name, found, plain)?;
+    in_room(alloc, query, &signed, unsigned, room)
+}
+
 /// The reply with RRSIGs.
 fn with_signatures(
     zone: &SignedZone,
@@ -198,11 +256,15 @@ fn with_signatures(
         (do_reply zone.now question.now (name_server_reply zone.now.zone question.now))))) result }
 {
     let tree = zone.zone();
-    let _lawful = tree.records();
-    let plain = plain_reply(tree, alloc, question)?;
-    let unsigned = plain.additional.len();
-    let signed = do_reply(zone, alloc, question, plain)?;
-    in_room(alloc, query, &signed, unsigned, room)
+    let rtype = question.qtype().to_int();
+    let name = question.qname().to_name(alloc)?;
+    let found = tree.walk(alloc, &name.for_ref(), rtype)?;
+    if let Walk::Node(kinds) = &found {
+        if is_direct(kinds, rtype) {
+            return direct_reply(zone, alloc, query, kinds, rtype);
+        }
+    }
+    walked_reply(zone, alloc, query, question, &name.for_ref(), &found, room)
 }
 
 /// The reply of a signed zone to a question for a name at or below its apex, as it is built (RFC 4035, section 3.1). The RRSIGs

@@ -1,16 +1,21 @@
 //! The RRSIGs of records.
 
-ghost use Rattle.std.specs.Prelude.{◌≡◌, ◌++◌, ◌∷◌, [], ◌+◌, ◌*◌, map, if◌then◌else◌, slice_index, IfOk, OnOk};
+ghost use Rattle.std.specs.Prelude.{◌≡◌, ◌++◌, ◌∷◌, [], ℕ, ◌+◌, ◌*◌, map, if◌then◌else◌, slice_index, IfOk, IsTrue, OnOk};
 ghost use Rattle.std.specs.List.{filter, list_any};
 ghost use Rattle.dns_base.specs.Records.{data_type};
+ghost use Rattle.dns_route.specs.Routes.{ends_name};
+ghost use Rattle.dns_zone.specs.Places.{at_places};
+ghost use Rattle.dns_zone_tree.specs.Kinds.{places_of};
+ghost use Rattle.dns_zone_tree.specs.Regions.{asked_region};
+ghost use Rattle.dns_zone_tree.specs.Walks.{ReachesNone};
 ghost use Rattle.dns_zone_tree.specs.Wildcards.{had_records};
 ghost use Rattle.dns_denial.specs.Signed.{is_beside, is_signature, type_covered};
-ghost use Rattle.dns_signed_reply.specs.SignedReplies.{have_signatures, reached_records, rrsigs, rrsigs_of, timed, with_rrsigs};
+ghost use Rattle.dns_signed_reply.specs.SignedReplies.{have_signatures, if_within, reached_records, rrsigs, rrsigs_of, timed, with_rrsigs};
 
-use crate::records::{extended, had_records, has_beside};
+use crate::records::{DS, extended, has_beside, is_in_zone, of_missing};
 use dns_base::{Record, RecordData};
 use dns_name::{Name, OutOfMemory};
-use dns_zone_tree::ZoneTree;
+use dns_zone_tree::{TypedPlace, Walk, ZoneTree};
 use std::alloc::Global;
 
 /// The type of RRSIG records.
@@ -100,8 +105,78 @@ fn add_all_covering(
     Ok(())
 }
 
+/// Adds the RRSIG at a place with the TTL of a record, if there is one, and it covers that record's type.
+fn add_placed(
+    alloc: Global,
+    records: &[Record],
+    kind: &TypedPlace,
+    signed: &Record,
+    into: &mut Vec<Record>,
+) -> Result<(), OutOfMemory>
+    ensures { OnOk result (into.new.items ≡ into.old.items ++ map (timed signed.now)
+        (filter (is_signature (data_type signed.now.rdata)) (at_places records.now (places_of 46 (kind.now ∷ []))))) }
+{
+    match kind.record(records, RRSIG) {
+        Some(signature) => add_covering(alloc, signed, signature, into),
+        None => Ok(()),
+    }
+}
+
+/// Adds those of the RRSIGs at places that cover a record's type, with its TTL.
+fn add_all_placed(
+    alloc: Global,
+    records: &[Record],
+    kinds: &[TypedPlace],
+    signed: &Record,
+    into: &mut Vec<Record>,
+) -> Result<(), OutOfMemory>
+    ensures { OnOk result (into.new.items ≡ into.old.items ++ map (timed signed.now)
+        (filter (is_signature (data_type signed.now.rdata)) (at_places records.now (places_of 46 kinds.now)))) }
+{
+    'each: for kind in kinds {
+        add_placed(alloc, records, kind, signed, into)?;
+    }
+    Ok(())
+}
+
+/// Adds the RRSIGs of the wildcard that stands for the owner of a record, as far as they cover its type.
+fn add_expanded(
+    zone: &ZoneTree,
+    alloc: Global,
+    signed: &Record,
+    skipped: usize,
+    into: &mut Vec<Record>,
+) -> Result<(), OutOfMemory>
+    ensures { (t : ℕ) → ReachesNone zone.now t signed.now.owner skipped → OnOk result (into.new.items ≡ into.old.items
+        ++ map (timed signed.now) (filter (is_signature (data_type signed.now.rdata)) (had_records zone.now signed.now.owner 46))) }
+{
+    let had = of_missing(zone, alloc, &signed.owner.for_ref(), skipped, RRSIG)?;
+    add_all_covering(alloc, signed, had.as_slice(), into)
+}
+
+/// Adds the RRSIGs that the zone has for a record whose owner is in it.
+fn add_within(
+    zone: &ZoneTree,
+    alloc: Global,
+    signed: &Record,
+    into: &mut Vec<Record>,
+) -> Result<(), OutOfMemory>
+    requires { IsTrue (ends_name signed.now.owner zone.now.apex) }
+    ensures { OnOk result (into.new.items ≡ into.old.items
+        ++ map (timed signed.now) (filter (is_signature (data_type signed.now.rdata))
+        (if_within (asked_region zone.now 43 signed.now.owner) (had_records zone.now signed.now.owner 46)))) }
+{
+    let found = zone.walk(alloc, &signed.owner.for_ref(), DS)?;
+    match found {
+        Walk::Node(kinds) => add_all_placed(alloc, zone.records(), kinds.as_slice(), signed, into),
+        Walk::Missing(skipped) => add_expanded(zone, alloc, signed, skipped, into),
+        Walk::Cut(_) => Ok(()),
+        Walk::Dname(_) => Ok(()),
+    }
+}
+
 /// Adds the RRSIGs that the zone has for a record.
-fn add_signatures(
+pub(crate) fn add_signatures(
     zone: &ZoneTree,
     alloc: Global,
     signed: &Record,
@@ -111,8 +186,10 @@ fn add_signatures(
         ++ map (timed signed.now) (filter (is_signature (data_type signed.now.rdata))
         (reached_records zone.now signed.now.owner (had_records zone.now signed.now.owner 46)))) }
 {
-    let had = had_records(zone, alloc, &signed.owner.for_ref(), RRSIG)?;
-    add_all_covering(alloc, signed, had.as_slice(), into)
+    if is_in_zone(zone, &signed.owner.for_ref()) {
+        return add_within(zone, alloc, signed, into);
+    }
+    Ok(())
 }
 
 /// Adds the RRSIGs of a record, unless its RRset was seen, or records have the RRSIGs of its owner.

@@ -9,3 +9,6 @@ pub mod DownLaws
 pub mod WayLaws
 pub mod ErrorLaws
 pub mod HostLaws
+pub mod WireLaws
+pub mod ReferralLaws
+pub mod StarLaws

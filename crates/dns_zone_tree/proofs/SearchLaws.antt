@@ -1,5 +1,5 @@
 -- The search for a key among nodes in order: the first that doesn't come before it has what is kept of it.
-use Rattle.std.proofs.Common.{◌≡◌, ℕ, zero, suc, ◌≤◌, ◌<◌, Bool, true, false, List, [], ◌∷◌, ◌++◌, length, refl, ap, sym, ◌∙◌, arith, append-nil}
+use Rattle.std.proofs.Common.{◌≡◌, ℕ, zero, suc, ◌≤◌, ◌<◌, Bool, true, false, List, [], ◌∷◌, ◌++◌, length, refl, ap, sym, subst, ◌∙◌, arith, append-nil}
 use Rattle.std.specs.Prelude.{◌||◌, if◌then◌else◌, is_some, slice_index_or, Option, Some, None}
 use Rattle.std.specs.Cmp.Lexicographic.{bytes_decides}
 use Rattle.std.specs.List.{AllByRecursion, list_any, slice_get}
@@ -12,6 +12,14 @@ use Rattle.dns_zone_tree.specs.declared.kinds.Kinds.{Kinds}
 use Rattle.dns_zone_tree.specs.declared.kinds.TypedPlace.{TypedPlace}
 use Rattle.dns_zone_tree.specs.declared.names.Node.{Node}
 use Rattle.dns_zone_tree.proofs.KeyOrder.{begins_amid, begins_not_below, below_trans, same_begins}
+
+-- what holds of all holds of the one at a place
+pub all_got : {A : Type 0} (P : A → Type 0) (xs : List A) (i : ℕ) (x : A) → AllByRecursion P xs → slice_get xs i ≡ Some x → P x
+all_got P [] i x h e = absurd (cc)
+all_got P (y ∷ ys) zero x h e =
+    let s : y ≡ x = cc in
+    subst P s h.0
+all_got P (y ∷ ys) (suc i) x h e = all_got P ys i x h.1 e
 
 -- ---- nodes that come before a key stand first
 
@@ -68,6 +76,27 @@ module _ (o : List ℕ) (none : Kinds) (p : List ℕ) where
 
   pub found_at : (ns : List Node) (i : ℕ) → AreOrdered o ns → IsPartitionPoint (λ (n : Node). is_before o p n ≡ true) (λ (n : Node). is_before o p n ≡ false) ns i → kinds_among o none p ns ≡ kept_by o none p (slice_get ns i)
   found_at ns i w h = finds ns i w (λ k d l. h.0 k d (omega arith) l) (λ k d l m. h.1 k d l m)
+
+  -- ---- the node of the octets themselves
+
+  own_here : (n : Node) (ns : List Node) → bytes_eq (key_of o n.span) p ≡ true → kinds_among o none p (n ∷ ns) ≡ Some n.kinds
+  own_here n ns e =
+      ap (λ (c : Bool). if c then node_kinds o none p n else kinds_among o none p ns) (same_begins p (key_of o n.span) e)
+      ∙ ap (λ (c : Bool). if c then Some n.kinds else (if begins_node o p n then Some none else None)) e
+
+  -- a node that comes before it doesn't begin with them
+  before_own : (m n : Node) → is_before o (key_of o n.span) m ≡ true → bytes_eq (key_of o n.span) p ≡ true → begins_node o p m ≡ false
+  before_own m n b e =
+      let l : is_below (key_of o m.span) p ≡ true = sym (ap (λ (k : List ℕ). is_below (key_of o m.span) k) ((bytes_decides (key_of o n.span) p).0 e)) ∙ b in
+      false_from_ne_true (begins_node o p m) (λ t. true≢false (sym l ∙ begins_not_below p (key_of o m.span) t))
+
+  pub own_among : (n : Node) (ns : List Node) (i : ℕ) → AreOrdered o ns → slice_get ns i ≡ Some n → bytes_eq (key_of o n.span) p ≡ true → kinds_among o none p ns ≡ Some n.kinds
+  own_among n [] i w g e = absurd (cc)
+  own_among n (m ∷ ns) zero w g e =
+      let s : m ≡ n = cc in
+      own_here m ns (ap (λ (x : Node). bytes_eq (key_of o x.span) p) s ∙ e) ∙ ap (λ (x : Node). Some x.kinds) s
+  own_among n (m ∷ ns) (suc i) w g e =
+      over m ns (before_own m n (all_got (λ (x : Node). is_before o (key_of o x.span) m ≡ true) ns i n w.0 g) e) ∙ own_among n ns i w.1 g e
 
   -- something is kept exactly if a node begins with the octets
   some_step : (n : Node) (b c : Bool) (o2 : Option Kinds) → begins_node o p n ≡ b → is_some o2 ≡ c → is_some (if b then node_kinds o none p n else o2) ≡ (b || c)

@@ -9,6 +9,7 @@ pub mod Kinds
 pub mod Long
 pub mod Nodes
 pub mod Joining
+pub mod Referrals
 pub mod Names
 pub mod TreeErrors
 pub mod Walks

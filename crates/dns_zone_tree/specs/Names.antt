@@ -1,6 +1,8 @@
 -- What the index of a zone says of its records: where those of a name are, and which names exist.
 use Rattle.std.specs.Prelude.{ℕ, ◌≡◌, ◌≤◌, List, [], ◌∷◌, None, is_some, length, map}
 use Rattle.std.specs.List.{AllByRecursion, filter, list_any, position}
+use Rattle.dns_base.specs.Msg.{ResourceRecord}
+use Rattle.dns_base.specs.Records.{record_of}
 use Rattle.dns_message.specs.declared.record.Record.{Record}
 use Rattle.dns_order.specs.Keys.{canonical_key}
 use Rattle.dns_route.specs.Routes.{ends_name}
@@ -10,10 +12,12 @@ use Rattle.dns_zone.specs.Places.{places}
 use Rattle.dns_zone.specs.ZoneReply.{negative_soa}
 use Rattle.dns_zone_tree.specs.Kinds.{kind_places, places_of}
 use Rattle.dns_zone_tree.specs.Long.{is_long}
+use Rattle.dns_zone_tree.specs.Referrals.{AreReferrals}
 use Rattle.dns_zone_tree.specs.Nodes.{Names, begins_keyed, kinds_under, places_under, typed_at}
 use Rattle.dns_zone_tree.specs.TreeErrors.{keys_size}
 use Rattle.dns_zone_tree.specs.declared.kinds.Kinds.{Kinds}
 use Rattle.dns_zone_tree.specs.declared.names.Keyed.{Keyed}
+use Rattle.dns_zone_tree.specs.declared.referrals.Referral.{Referral}
 
 -- keys of records: each lies among the octets, which have no others
 pub record IsKeyed (o : List ℕ) (ks : List Keyed) (rs : List Record) : Type 0 where
@@ -28,11 +32,15 @@ pub record KnowsNames (n : Names) (rs : List Record) : Type 0 where
   pub kept : (name : List (List ℕ)) (t : ℕ) → places_under n (canonical_key name) t ≡ places (is_asked name t) rs
   pub there : (name : List (List ℕ)) → is_some (kinds_under n (canonical_key name)) ≡ list_any (λ (r : Record). ends_name r.owner name) rs
 
--- records within an apex that aren't long, their index, the places of the records of the apex, and the SOA record of negative answers
-pub record IsTree (apex : List (List ℕ)) (rs : List Record) (n : Names) (top : Kinds) (negative : Record) : Type 0 where
+-- records within an apex that aren't long, their index, the places of the apex's records, the negative SOA record, also in wire form,
+-- and referrals
+pub record IsTree (apex : List (List ℕ)) (rs : List Record) (n : Names) (top : Kinds) (negative : Record)
+    (denial : List ResourceRecord) (referrals : List Referral) : Type 0 where
   pub lawful : AreLawful rs
   pub within : AllByRecursion (IsInZone apex) rs
   pub short : position is_long rs ≡ None
   pub known : KnowsNames n rs
   pub top_ : (t : ℕ) → kind_places t top ≡ places (is_asked apex t) rs
   pub soa : map negative_soa (filter (is_of 6) rs) ≡ negative ∷ []
+  pub denied : denial ≡ record_of negative ∷ []
+  pub referred : AreReferrals (record { apex = apex; records = rs }) referrals

@@ -1,7 +1,7 @@
 -- The index of a zone: the keys of the names that own records, one after another, and a node for each in the order of the keys.
 -- They compare as names do in the canonical order (RFC 4034, section 6.1). A name above one of them needs no node: its key begins
 -- theirs.
-use Rattle.std.specs.Prelude.{ℕ, ◌≡◌, Bool, true, ◌&&◌, not, List, [], ◌∷◌, ◌++◌, length, take, map, nat_le, if◌then◌else◌, Option, Some, None}
+use Rattle.std.specs.Prelude.{ℕ, ◌≡◌, Bool, true, ◌&&◌, not, List, [], ◌∷◌, ◌++◌, length, take, map, nat_eq, nat_le, if◌then◌else◌, Option, Some, None}
 use Rattle.std.specs.List.{AllByRecursion, filter, list_any, slice_range}
 use Rattle.std.specs.Ordering.{is_lt, nat_cmp}
 use Rattle.std.specs.Cmp.Lexicographic.{slice_cmp}
@@ -60,6 +60,15 @@ begins_node o p n = begins p (key_of o n.span)
 abbrev pub AreOrdered : List ℕ → List Node → Type 0
 AreOrdered o [] = Unit {0}
 AreOrdered o (n ∷ ns) = AllByRecursion (λ (m : Node). is_before o (key_of o m.span) n ≡ true) ns × AreOrdered o ns
+
+-- whether one of some octets is `*`
+abbrev pub has_star : List ℕ → Bool
+has_star o = list_any (nat_eq 42) o
+
+-- nodes in order, and whether a key has an octet `*`
+pub record IsIndex (o : List ℕ) (ns : List Node) (stars : Bool) : Type 0 where
+  pub ordered : AreOrdered o ns
+  pub starred : stars ≡ has_star o
 
 -- the types and places of the nodes of a key
 abbrev pub noded_at : List ℕ → List ℕ → List Node → List TypedPlace

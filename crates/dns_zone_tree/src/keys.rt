@@ -11,8 +11,9 @@ ghost use Rattle.dns_zone_tree.specs.Nodes.{IsJoined, is_last, is_lower, key_of}
 ghost use Rattle.dns_zone_tree.specs.TreeErrors.{Makes, size_error, size_limit};
 
 use crate::error::TreeError;
+use crate::hints::Hints;
 use crate::kinds::{Kinds, TypedPlace};
-use crate::names::{Keyed, Names, Node, Span, key_of};
+use crate::names::{Keyed, Names, Node, Span, has_star, key_of};
 use dns_base::Record;
 use dns_name::OutOfMemory;
 use dns_order::canonical_key;
@@ -175,10 +176,13 @@ fn indexed(alloc: Global, keys: Keys) -> Result<Names, OutOfMemory>
     sort_keys(octets.as_slice(), &mut keyed)?;
     let nodes = joined(alloc, octets.as_slice(), keyed.as_slice())?;
     let none = Kinds::new();
+    let stars = has_star(octets.as_slice());
     Ok(Names {
         octets,
         nodes,
         none,
+        hints: Hints::new(alloc),
+        stars,
     })
 }
 
@@ -191,6 +195,7 @@ pub(crate) fn names_of(alloc: Global, records: &[Record]) -> Result<Names, TreeE
         return Err(TreeError::Large);
     }
     let keys = keys_of(alloc, records)?;
-    let names = indexed(alloc, keys)?;
+    let mut names = indexed(alloc, keys)?;
+    names.hint(alloc)?;
     Ok(names)
 }

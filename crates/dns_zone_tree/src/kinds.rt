@@ -1,6 +1,6 @@
 //! Places of the records of one name, with their types.
 
-ghost use Rattle.std.specs.Prelude.{◌≡◌, ◌<◌, ◌++◌, ◌∷◌, [], length, IfOk, IfSome, OnOk, MatchBool, MatchOption};
+ghost use Rattle.std.specs.Prelude.{◌≡◌, ◌<◌, ◌++◌, ◌∷◌, [], length, IfOk, IfSome, IsTrue, OnOk, MatchBool, MatchOption};
 ghost use Rattle.std.specs.List.{count_by, list_any, slice_get};
 ghost use Rattle.std.specs.Option.{option_copied};
 ghost use Rattle.dns_base.specs.Records.{IsLawful};
@@ -36,6 +36,18 @@ impl TypedPlace {
         ensures { result ≡ record { rtype = rtype; place = place } }
     {
         TypedPlace { rtype, place }
+    }
+
+    /// Whether it is another one.
+    pub(crate) fn is_same(&self, other: &TypedPlace) -> bool
+        ensures { IsTrue result → self.now ≡ other.now }
+    {
+        self.rtype == other.rtype && self.place == other.place
+    }
+
+    /// The place.
+    pub(crate) fn place(&self) -> usize {
+        self.place as usize
     }
 
     /// Whether the record has a type; type 255 asks for any.

@@ -5,11 +5,14 @@
 //!   of more than 4,294,967,295 records or octets of keys are refused.
 //! - `walk` goes from the apex to a name, label by label, and says what it ends at (`Walk`).
 //! - `wildcard` finds the wildcard below a name, and `glue` the addresses of name servers.
+//! - `referral` is what a referral to a cut has and `denial` the SOA record of negative answers, in wire form. They are made once,
+//!   with the zone.
 //! - `Kinds` are the places of the records of one name, with their types (`TypedPlace`).
 //!
 //! `Zone` of dns_zone is a single service over such a list; a `ZoneTree` is what the reply of a name server is made
 //! from, in dns_name_server. Its index has the keys of all owners after one another, and a node of some 40 octets for
-//! each name that owns records. A name above one exists without a node: its key begins the next one.
+//! each name that owns records. A name above one exists without a node: its key begins the next one. A table of 8 octets for each
+//! node says where a key is looked for first. A name that owns records is mostly found by it, without a search.
 //!
 //! ```text
 //! apex -> label -> label -> name          Node: its records | Missing: below its closest encloser
@@ -27,27 +30,33 @@
 //!   3.1.4.1).
 //! - What is found of a name or of a wildcard are the places of exactly its records, in the order of the list. It says whether the
 //!   name exists.
-//! - `glue` is the addresses of the name servers that lie in the zone, each once, in the order of the list.
+//! - `glue` is the addresses of the name servers that lie in the zone, each once, in the order of the list. What `referral` gives is
+//!   these and the NS records of the cut.
 //!
 //! # What a body could still get away with
 //!
-//! How many names a walk looks up, and how much memory the tree takes. By reading the code a walk looks up one name for each label
-//! below the apex. Whether a name has NS or DNAME records is kept with its places.
+//! How many names a walk looks up, how often a search is needed, and how much memory the tree takes. By reading the code a walk looks
+//! up one name for each label below the apex. Whether a name has NS or DNAME records is kept with its places. `referral` may give none
+//! for any cut; by reading the code it does so for none.
 #![tactic(auto)]
 
 mod check;
 mod error;
 mod glue;
+mod hints;
 mod keys;
 mod kinds;
 mod listing;
 mod names;
 mod places;
+mod referrals;
 mod walk;
+mod wire;
 mod zone_tree;
 
 pub use error::TreeError;
 pub use glue::record_target;
 pub use kinds::{ANY, Kinds, TypedPlace, record_at};
+pub use referrals::Referral;
 pub use walk::Walk;
 pub use zone_tree::ZoneTree;

@@ -1,12 +1,16 @@
 //! The index of a zone: the names that own records, in the canonical order.
 
-ghost use Rattle.std.specs.Prelude.{◌≡◌, true, false};
+ghost use Rattle.std.specs.Prelude.{◌≡◌, ℕ, List, true, false, IfSome, Some, None};
 ghost use Rattle.std.specs.List.{slice_get};
 ghost use Rattle.std.specs.List.Sorted.{IsPartitionPoint};
 ghost use Rattle.std.specs.Option.{option_copied};
-ghost use Rattle.dns_zone_tree.specs.Nodes.{AreOrdered, is_before, key_of, kinds_by, kinds_under};
+ghost use Rattle.std.specs.Str.{bytes_eq};
+ghost use Rattle.dns_zone_tree.specs.Nodes.{AreOrdered, has_star, is_before, key_of, kinds_by, kinds_under};
 
+use crate::hints::{Hints, PROBES};
 use crate::kinds::{Kinds, TypedPlace};
+use dns_name::OutOfMemory;
+use std::alloc::Global;
 use std::marker::Model;
 
 /// Where a key lies among the octets of all keys.
@@ -36,16 +40,18 @@ pub(crate) struct Names {
     pub(crate) octets: Vec<u8>,
     pub(crate) nodes: Vec<Node>,
     pub(crate) none: Kinds,
+    pub(crate) hints: Hints,
+    pub(crate) stars: bool,
 }
 
 impl Model for Names {
-    ghost use Rattle.dns_zone_tree.specs.Nodes.{AreOrdered, Names as Index};
+    ghost use Rattle.dns_zone_tree.specs.Nodes.{IsIndex, Names as Index};
 
     ghost Value = { Index };
 
     ghost view = { λ n. record { octets = n.octets.items; nodes = n.nodes.items; none = n.none } };
 
-    ghost invariant = { λ n. AreOrdered n.octets.items n.nodes.items };
+    ghost invariant = { λ n. IsIndex n.octets.items n.nodes.items n.stars };
 }
 
 /// The octets of a key; none if it doesn't lie among the octets.
@@ -56,6 +62,13 @@ pub(crate) fn key_of(octets: &[u8], span: Span) -> &[u8]
         Some(key) => key,
         None => &[],
     }
+}
+
+/// Whether one of some octets is `*`.
+pub(crate) fn has_star(octets: &[u8]) -> bool
+    ensures { result ≡ has_star octets.now }
+{
+    octets.iter().any(|octet| b'*' == *octet)
 }
 
 /// Whether a node comes before a key.
@@ -94,9 +107,69 @@ fn kinds_by<'a>(own: &[u8], key: &[u8], kinds: &'a Kinds, none: &'a Kinds) -> Op
     None
 }
 
+/// Whether a key is another one.
+fn is_key(own: &[u8], key: &[u8]) -> bool
+    ensures { result ≡ bytes_eq own.now key.now }
+{
+    own == key
+}
+
 impl Names {
+    /// The nodes, in order.
+    pub(crate) fn nodes(&self) -> &[Node]
+        ensures { result.now ≡ self.now.nodes }
+    {
+        self.nodes.as_slice()
+    }
+
+    /// Whether a name with `*` may exist.
+    pub(crate) fn has_stars(&self) -> bool
+        ensures { result ≡ false → (key : List ℕ) → has_star key ≡ true → None ≡ kinds_under self.now key }
+    {
+        self.stars
+    }
+
+    /// Makes the hints.
+    pub(crate) fn hint(&mut self, alloc: Global) -> Result<(), OutOfMemory>
+        ensures { self.new ≡ self.old }
+    {
+        self.hints = Hints::of(alloc, self.octets.as_slice(), self.nodes.as_slice())?;
+        Ok(())
+    }
+
+    /// What the node at a place keeps, if its key is one.
+    fn kinds_if(&self, place: usize, key: &[u8]) -> Option<&Kinds>
+        ensures { IfSome result (λ m. Some m.now ≡ kinds_under self.now key.now) }
+    {
+        match node_at(self.nodes.as_slice(), place) {
+            Some(node) => {
+                if is_key(key_of(self.octets.as_slice(), node.span), key) {
+                    return Some(&node.kinds);
+                }
+                None
+            }
+            None => None,
+        }
+    }
+
+    /// What is kept of the name of a key, if a hint leads to its node.
+    fn hinted(&self, key: &[u8]) -> Option<&Kinds>
+        ensures { IfSome result (λ m. Some m.now ≡ kinds_under self.now key.now) }
+    {
+        let start = self.hints.start(key);
+        'probes: for probe in 0..PROBES {
+            let Some(place) = self.hints.get(start.saturating_add(probe)) else {
+                return None;
+            };
+            if let Some(kinds) = self.kinds_if(place, key) {
+                return Some(kinds);
+            }
+        }
+        None
+    }
+
     /// What is kept of the name of a key, if it exists. The first node that doesn't come before the key says it.
-    pub(crate) fn kinds_at(&self, key: &[u8]) -> Option<&Kinds>
+    fn searched(&self, key: &[u8]) -> Option<&Kinds>
         ensures { option_copied result ≡ kinds_under self.now key.now }
     {
         let octets = self.octets.as_slice();
@@ -104,6 +177,15 @@ impl Names {
         match node_at(nodes, count_before(octets, nodes, key)) {
             Some(node) => kinds_by(key_of(octets, node.span), key, &node.kinds, &self.none),
             None => None,
+        }
+    }
+    /// What is kept of the name of a key, if it exists.
+    pub(crate) fn kinds_at(&self, key: &[u8]) -> Option<&Kinds>
+        ensures { option_copied result ≡ kinds_under self.now key.now }
+    {
+        match self.hinted(key) {
+            Some(kinds) => Some(kinds),
+            None => self.searched(key),
         }
     }
 }

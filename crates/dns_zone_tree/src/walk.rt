@@ -69,6 +69,9 @@ impl ZoneTree {
     ) -> Result<Option<&Kinds>, OutOfMemory>
         ensures { IfOk result (λ o. IsNode self.now (star ∷ above.now) (option_copied o)) }
     {
+        if !self.names.has_stars() {
+            return Ok(None);
+        }
         let key = star_key(alloc, above)?;
         Ok(self.names.kinds_at(key.as_slice()))
     }

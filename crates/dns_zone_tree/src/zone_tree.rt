@@ -2,7 +2,7 @@
 
 ghost use Rattle.std.specs.Prelude.{◌≡◌, ◌∷◌, [], length, map, None, IfOk};
 ghost use Rattle.std.specs.List.{AllByRecursion, filter, position};
-ghost use Rattle.dns_base.specs.Records.{IsLawful};
+ghost use Rattle.dns_base.specs.Records.{IsLawful, record_of};
 ghost use Rattle.dns_zone.specs.ZoneIndex.{IsInZone};
 ghost use Rattle.dns_zone.specs.Owned.{AreLawful, is_of};
 ghost use Rattle.dns_zone.specs.ZoneReply.{negative_soa};
@@ -15,7 +15,8 @@ use crate::error::TreeError;
 use crate::kinds::Kinds;
 use crate::listing::{kinds_of, negative_of};
 use crate::names::Names;
-use dns_base::Record;
+use crate::referrals::Referrals;
+use dns_base::{Record, WireRecords};
 use dns_name::{Name, OutOfMemory};
 use std::alloc::Global;
 use std::marker::Model;
@@ -29,6 +30,8 @@ pub struct ZoneTree {
     pub(crate) names: Names,
     pub(crate) top: Kinds,
     pub(crate) negative: Record,
+    pub(crate) denial: WireRecords,
+    pub(crate) referrals: Referrals,
 }
 
 impl Model for ZoneTree {
@@ -39,7 +42,17 @@ impl Model for ZoneTree {
 
     ghost view = { λ z. record { apex = z.apex; records = z.records.items } };
 
-    ghost invariant = { λ z. IsTree z.apex z.records.items z.names z.top z.negative };
+    ghost invariant = { λ z. IsTree z.apex z.records.items z.names z.top z.negative z.denial z.referrals.list.items };
+}
+
+/// A record in wire form.
+fn written(alloc: Global, resource: &Record) -> Result<WireRecords, OutOfMemory>
+    requires { IsLawful resource.now.rdata }
+    ensures { IfOk result (λ w. w ≡ record_of resource.now ∷ []) }
+{
+    let mut one = WireRecords::new(alloc);
+    one.push(alloc, resource)?;
+    Ok(one)
 }
 
 /// The zone of records that were checked.
@@ -57,14 +70,19 @@ fn made(
     ensures { IfOk result (λ z. z ≡ record { apex = apex; records = records.items }) }
 {
     let negative = negative_of(alloc, records.as_slice())?;
+    let denial = written(alloc, &negative)?;
     let top = kinds_of(alloc, &names, &apex)?;
-    Ok(ZoneTree {
+    let mut zone = ZoneTree {
         apex,
         records,
         names,
         top,
         negative,
-    })
+        denial,
+        referrals: Referrals::new(alloc),
+    };
+    zone.refer(alloc)?;
+    Ok(zone)
 }
 
 impl ZoneTree {
@@ -106,5 +124,12 @@ impl ZoneTree {
         ensures lawful { IsLawful result.now.rdata }
     {
         &self.negative
+    }
+
+    /// That record in wire form.
+    pub fn denial(&self) -> &WireRecords
+        ensures { result.now ≡ map record_of (map negative_soa (filter (is_of 6) self.now.records)) }
+    {
+        &self.denial
     }
 }

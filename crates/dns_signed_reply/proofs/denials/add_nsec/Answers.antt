@@ -7,5 +7,5 @@ pub returns : goal.returns
 returns c =
     let z = c.args.zone.now in
     let n = c.args.nsec.now in
-    let f : c.as_slice-2.result.now ≡ owned_records z n.owner 47 = c.as_slice-2.ensures.value ∙ (c.in_ok-found.ensures ∙ ap (λ (x : List (List ℕ)). owned_records z x 47) (c.for_ref.ensures.value ∙ c.owner.ensures)) in
-    nsec_added z n c.args.into.now.items c.as_slice.result.now c.as_slice-2.result.now c.in_ok-more.more.items c.append.new.self.items c.as_slice.ensures.value f c.in_ok-more.ensures c.in_ok-append.ensures.items
+    let f : c.in_ok-found.found.items ≡ owned_records z n.owner 47 = c.in_ok-found.ensures ∙ ap (λ (x : List (List ℕ)). owned_records z x 47) (c.for_ref.ensures.value ∙ c.owner.ensures) in
+    nsec_added z n c.args.into.now.items c.as_slice.result.now c.in_ok-found.found.items c.leave_out.new.records.items c.append.new.self.items c.as_slice.ensures.value f c.leave_out.ensures c.in_ok-append.ensures.items

@@ -1,5 +1,4 @@
-use Rattle.std.proofs.Common.{◌≡◌, ℕ, List, ap, ◌∙◌}
-use Rattle.dns_message.specs.declared.record.Record.{Record}
+use Rattle.std.proofs.Common.{◌≡◌, ℕ, ap, ◌∙◌}
 use Rattle.dns_zone.specs.Cuts.{glue}
 use Rattle.dns_zone.specs.Places.{at_places}
 use Rattle.dns_zone_tree.specs.Kinds.{kind_places}
@@ -11,7 +10,5 @@ returns c =
     let z = c.args.zone.now in
     let servers = at_places z.records (kind_places 2 c.args.cut.now) in
     let n : c.in_ok-authority.authority.items ≡ servers = c.in_ok-authority.ensures ∙ ap (λ (t : ℕ). at_places z.records (kind_places t c.args.cut.now)) c.to_int.ensures.value in
-    let x : c.in_ok-additional.additional.items ≡ glue z servers = c.in_ok-additional.ensures
-    ∙ (ap (λ (rs : List Record). at_places rs c.as_slice.result.now) c.records.ensures.value
-    ∙ (ap (λ (is : List ℕ). at_places z.records is) c.as_slice.ensures.value ∙ c.in_ok-places.ensures)) in
+    let x : c.in_ok-additional.additional.items ≡ glue z servers = c.in_ok-additional.ensures in
     referral_is z servers c.new-answers.result.items c.in_ok-authority.authority.items c.in_ok-additional.additional.items n x c.new-answers.ensures.items

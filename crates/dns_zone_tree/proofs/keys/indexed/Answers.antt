@@ -1,6 +1,6 @@
-use Rattle.std.proofs.Common.{ℕ, List, refl, sym, subst, ◌∙◌}
+use Rattle.std.proofs.Common.{ℕ, List, refl, ap, sym, subst, ◌∙◌}
 use Rattle.std.specs.List.Sorted.{IsSortedBy, IsStableBy}
-use Rattle.dns_zone_tree.specs.Nodes.{AreOrdered, IsJoined, Names, is_lower}
+use Rattle.dns_zone_tree.specs.Nodes.{AreOrdered, IsJoined, Names, has_star, is_lower}
 use Rattle.dns_zone_tree.specs.declared.names.Keyed.{Keyed}
 use Rattle.dns_zone_tree.proofs.KeyedLaws.{knows_names}
 use Rattle.dns_zone_tree.proofs.keys.indexed.Goals as goal
@@ -11,7 +11,10 @@ joined-requires c =
     (subst (λ (l : List ℕ). IsSortedBy (is_lower l) c.sort_keys.new.keyed.items) (c.as_slice.ensures.value ∙ sym c.as_slice-2.ensures.value) c.in_ok-sort_keys.ensures.sorted)
 
 pub invariant_of-result : goal.invariant_of-result
-invariant_of-result c = subst (λ (l : List ℕ). AreOrdered l c.in_ok-nodes.nodes.items) c.as_slice-2.ensures.value c.in_ok-nodes.ensures.ordered
+invariant_of-result c = record {
+  ordered = subst (λ (l : List ℕ). AreOrdered l c.in_ok-nodes.nodes.items) c.as_slice-2.ensures.value c.in_ok-nodes.ensures.ordered;
+  starred = c.has_star-stars.ensures ∙ ap has_star c.as_slice-4.ensures.value;
+}
 
 pub returns : goal.returns
 returns c = λ rs h.

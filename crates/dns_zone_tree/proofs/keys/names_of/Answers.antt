@@ -1,5 +1,7 @@
-use Rattle.std.proofs.Common.{arith}
+use Rattle.std.proofs.Common.{arith, subst, sym}
 use Rattle.std.proofs.lemmas.Result.{err_from_is_err_and}
+use Rattle.dns_zone_tree.specs.Names.{KnowsNames}
+use Rattle.dns_zone_tree.specs.Nodes.{Names}
 use Rattle.dns_zone_tree.proofs.KeyedLaws.{large_list}
 use Rattle.dns_zone_tree.proofs.keys.names_of.Goals as goal
 
@@ -12,4 +14,5 @@ returns-in_err-keys c =
     rw (p.1, p.2) c.in_err-keys.ensures
 
 pub returns : goal.returns
-returns c = (c.in_ok-keys.ensures.0, c.in_ok-names.ensures c.args.records.now c.in_ok-keys.ensures.1)
+returns c =
+    (c.in_ok-keys.ensures.0, subst (λ (n : Names). KnowsNames n c.args.records.now) (sym c.hint.ensures) (c.in_ok-names.ensures c.args.records.now c.in_ok-keys.ensures.1))

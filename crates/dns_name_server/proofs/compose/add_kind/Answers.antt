@@ -1,8 +1,0 @@
-use Rattle.dns_name_server.proofs.StepLaws.{add_none}
-use Rattle.dns_name_server.proofs.compose.add_kind.Goals as goal
-
-pub push-requires : goal.push-requires
-push-requires c = c.in-Some.ensures.lawful c.requires
-
-pub returns-in-None : goal.returns-in-None
-returns-in-None c = add_none c.args.records.now _ c.args.into.now c.in-None.ensures.value
