@@ -126,6 +126,14 @@ impl ReplyFuture for ScriptFuture {
             None => Ok(Polled::Pending),
         }
     }
+
+    #[inline(always)]
+    fn into_stream(self) -> Result<ScriptStream, ScriptFuture> {
+        match self.stream {
+            Some(stream) => Ok(stream),
+            None => Err(ScriptFuture { stream: None }),
+        }
+    }
 }
 
 /// The answers that are left.
