@@ -21,11 +21,11 @@ use std::alloc::Global;
 pub fn make_answer(
     alloc: Global,
     message: &Message,
-    answer: ScriptAnswer,
+    answer: &ScriptAnswer,
 ) -> Result<Polled<Option<ServiceResult>>, OutOfMemory>
-    ensures { IfOk result (λ p. p ≡ given message.now answer) }
+    ensures { IfOk result (λ p. p ≡ given message.now answer.now) }
 {
-    match answer {
+    match *answer {
         ScriptAnswer::Pend => Ok(Polled::Pending),
         ScriptAnswer::Error(error) => Ok(Polled::Ready(Some(Err(error)))),
         ScriptAnswer::Feedback(feedback) => {

@@ -151,7 +151,7 @@ impl ReplyStream for ScriptStream {
 
     #[inline(always)]
     fn poll_next(&mut self, alloc: Global) -> Result<Polled<Option<ServiceResult>>, OutOfMemory> {
-        let Some(answer) = self.answers.as_slice().get(self.next).copied() else {
+        let Some(answer) = self.answers.as_slice().get(self.next) else {
             return Ok(Polled::Ready(None));
         };
         self.next += 1;
