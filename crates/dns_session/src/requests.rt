@@ -104,21 +104,19 @@ fn shared_anew(alloc: Global, message: Message) -> Result<Arc<Message>, OutOfMem
     Ok(Arc::new(alloc, message)?)
 }
 
-/// The request of a frame of a connection that may be idle for so long.
+/// The request of a frame of a connection that may be idle for so long, whose message is shared already.
 pub fn frame_request(
-    alloc: Global,
     idle_timeout: u64,
     addr: SocketAddr,
     at: u64,
     secs: u64,
-    message: Message,
-) -> Result<Request<()>, OutOfMemory>
-    ensures { IfOk result (λ r. r ≡ request_of_frame idle_timeout addr at secs message) }
+    message: Arc<Message>,
+) -> Request<()>
+    ensures { result ≡ request_of_frame idle_timeout addr at secs (arc_value message) }
 {
     let context = NonUdpTransportContext::new(Some(idle_timeout));
     let transport = TransportSpecificContext::NonUdp(context);
-    let request = Request::new(alloc, addr, at, secs, message, transport, ())?;
-    Ok(request)
+    Request::of_shared(addr, at, secs, message, transport, ())
 }
 
 /// A reply as a datagram, which is not copied.
