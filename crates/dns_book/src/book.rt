@@ -6,6 +6,7 @@ ghost use Rattle.crossbeam_utils.specs.Seq.{cell_view, IsSamePass};
 ghost use Rattle.dns_admission.specs.Machine.{state_after, reply_of};
 ghost use Rattle.dns_admission.specs.Admissions.{Admits, Reconfigures};
 ghost use Rattle.dns_book.specs.Causes.{WasShutDown};
+ghost use Rattle.dns_book.specs.News.{news_of};
 ghost use Rattle.dns_book.specs.Seats.{IsSound, Called, Joined, new_known, state_met, first_half, second_half};
 ghost use Rattle.dns_book.specs.Words.{state_of};
 ghost use Rattle.crossbeam_utils.specs.Register.{Turns, Forks, Merges};
@@ -129,6 +130,7 @@ impl Book {
     }
 
     /// Shows the book, by one load.
+    #[inline(always)]
     pub fn look<R: Wait>(&self, rt: &R, seat: &mut BookSeat) -> Look
         requires { seat.old.book ≡ self.now }
         ensures book { seat.new.book ≡ seat.old.book }
@@ -140,6 +142,28 @@ impl Book {
         let now = self.load::<Looked, R>(rt, &mut seat.pass);
         renew(&mut seat.shown, &now);
         seat.shown
+    }
+
+    /// Shows the book, by one load, to who heard of this version, and of the shutdown where that is said. If it shows nothing
+    /// new, nothing is given.
+    #[inline(always)]
+    pub fn look_for_news<R: Wait>(
+        &self,
+        rt: &R,
+        seat: &mut BookSeat,
+        version: u64,
+        closed: bool,
+    ) -> Option<Look>
+        requires { seat.old.book ≡ self.now }
+        ensures book { seat.new.book ≡ seat.old.book }
+        ensures called { Called seat.old.known Call.Look (Reply.Look (state_met seat.new.known)) seat.new.known }
+        ensures news { result ≡ news_of version closed (state_met seat.new.known) }
+    {
+        let shown = self.look(rt, seat);
+        if shown.version == version && (closed || !shown.closed) {
+            return None;
+        }
+        Some(shown)
     }
 
     /// Two seats of one, which have seen what it had seen. The first keeps its calls.
@@ -306,6 +330,7 @@ impl Book {
     }
 
     // One load, after which the pass has what the outcome says.
+    #[inline(always)]
     fn load<M: Outcome<BookWords, View>, R: Wait>(&self, rt: &R, pass: &mut SeatPass) -> BookWords
         requires book { pass.old.table_id ≡ self.now }
         requires rule { Turns KeptInOrder pass.old.id (cell_view pass.old) (λ x. x) M.then }

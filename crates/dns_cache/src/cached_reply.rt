@@ -86,7 +86,7 @@ fn kept_message(
     if !is_whole(&built) {
         return Ok(None);
     }
-    let marks = marks_of(alloc, reply.message())?;
+    let marks = marks_of(alloc, &reply.message())?;
     kept_marked(alloc, request, reply, built, marks)
 }
 

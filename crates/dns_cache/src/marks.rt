@@ -8,7 +8,7 @@ ghost use Rattle.dns_cache.specs.Marks.{AreMarked, IsMarked, MarksOf, SectionsMa
 ghost use Rattle.dns_cache.specs.Ttls.{lesser_of, smallest};
 
 use dns_base::{
-    Message, ParseError, Record, RecordIter, RecordRef, Rtype, data_has_names, records_stand,
+    MessageRef, ParseError, Record, RecordIter, RecordRef, Rtype, data_has_names, records_stand,
 };
 use dns_service::OutOfMemory;
 use std::alloc::Global;
@@ -36,7 +36,7 @@ impl Mark {
 }
 
 /// The marks of a message's records, without those of the OPT records of its additional section.
-pub(crate) fn marks_of(alloc: Global, message: &Message) -> Result<Vec<Mark>, OutOfMemory>
+pub(crate) fn marks_of(alloc: Global, message: &MessageRef<'_>) -> Result<Vec<Mark>, OutOfMemory>
     ensures { IfOk result (λ marks. MarksOf (copied message.now) marks.items) }
 {
     records_stand();

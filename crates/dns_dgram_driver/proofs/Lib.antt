@@ -9,6 +9,7 @@ pub mod EventHeads
 pub mod Clocks
 pub mod Seats
 pub mod Passes
+pub mod Unheard
 pub mod Quiet
 pub mod Parts
 pub mod WideEvents

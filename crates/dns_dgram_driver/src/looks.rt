@@ -30,7 +30,7 @@ fn note_look(heard: &mut Look, look: &Look)
 }
 
 /// Notes the news of a look, and hears them.
-#[inline(always)]
+#[inline(never)]
 pub(crate) fn apply_news<C: Clock, J: Recorder>(
     alloc: Global,
     clock: &mut C,
@@ -60,7 +60,8 @@ impl<R: Wait, W: SharedService, D: AsyncDgramSock, C: Clock, J: Recorder> DgramL
     J,
 > {
     /// One look, and its news.
-    #[tactic(auto, using(crate::proofs::Passes::passes_news))]
+    #[tactic(auto, using(crate::proofs::Unheard::passes_heard, crate::proofs::Unheard::passes_told))]
+    #[inline(always)]
     pub(crate) fn look_once(&mut self) -> Result<(), OutOfMemory>
         requires { self.old.state.now.seat.book ≡ self.old.book.now }
         ensures polls { OnlyPolls D.failed_receives D.failed_sends self.old self.new }
@@ -71,8 +72,16 @@ impl<R: Wait, W: SharedService, D: AsyncDgramSock, C: Clock, J: Recorder> DgramL
             (StepFails (request_answer W.Future.answer W.Stream.answer)
             (serving (W.answer self.old.service.now) (W.hint self.old.service.now)) false) result self.old self.new }
     {
-        let look = self.book.look(self.rt, &mut self.state.seat);
-        let heard = &mut self.state.heard;
-        apply_news(self.alloc, self.clock, self.journal, heard, &look)
+        let version = self.state.heard.version;
+        let closed = self.state.heard.closed;
+        let seat = &mut self.state.seat;
+        let news = self.book.look_for_news(self.rt, seat, version, closed);
+        match news {
+            Some(look) => {
+                let heard = &mut self.state.heard;
+                apply_news(self.alloc, self.clock, self.journal, heard, &look)
+            }
+            None => Ok(()),
+        }
     }
 }

@@ -43,6 +43,17 @@ where
             WrappedFuture::Passing(future, post) => poll_passing(alloc, future, *post),
         }
     }
+
+    #[inline(always)]
+    fn into_stream(self) -> Result<WrappedStream<F::Stream, V>, WrappedFuture<F, V>> {
+        match self {
+            WrappedFuture::Passing(future, post) => match future.into_stream() {
+                Ok(stream) => Ok(WrappedStream::Passed(stream, post)),
+                Err(future) => Err(WrappedFuture::Passing(future, post)),
+            },
+            future => Err(future),
+        }
+    }
 }
 
 /// A reply of its own, if it wasn't taken before.

@@ -17,6 +17,7 @@ pub use Rattle.dns_service.specs.LastOpt
 pub use Rattle.dns_message.specs.TypedData
 pub mod KeptOptions
 pub mod ReplyMessage
+pub mod Sources
 pub mod RequestMessage
 pub mod OwnReplies
 pub mod Turns

@@ -79,8 +79,3 @@ Composes read (Err (Service InternalError)) = (m : Msg) × (read ≡ Ok m) × (6
 Composes read (Err (Service NotImplemented)) = ⊥
 Composes read (Err (Service Refused)) = ⊥
 Composes read (Err NoMemory) = Unit {0}
-
--- what may be kept besides a reply: the message that is built of it, so that the reply isn't read for it
-abbrev pub KeepsBuilt : ReplyState → Option Built → Type 0
-KeepsBuilt r None = Unit {0}
-KeepsBuilt r (Some b) = Composes (reply_message r) (Ok b)

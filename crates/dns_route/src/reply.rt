@@ -1,6 +1,6 @@
 //! Replies that are composed of other messages.
 
-ghost use Rattle.std.specs.Prelude.{◌≡◌, IfOk, None, Ok};
+ghost use Rattle.std.specs.Prelude.{◌≡◌, IfOk, IfSome, None, Ok};
 ghost use Rattle.std.specs.Option.{option_copied};
 ghost use Rattle.dns_route.specs.OwnReplies.{kept_whole};
 ghost use Rattle.dns_base.specs.Standing.{GivesParsed};
@@ -41,23 +41,33 @@ pub trait ComposeReply: Sized {
         ensures { Composes (reply_message (state self.now)) result };
 }
 
-/// A message and the OPT record that it gets: in place of its own, if it has one. Beside them the message that is built of it may
-/// be kept, so that it isn't read for it.
+/// What a reply is composed of.
+#[derive(Debug, Drop)]
+enum Source {
+    /// A message, which is read for it.
+    Read(Message),
+    /// A message that was built here.
+    Built(AdditionalBuilder),
+}
+
+/// A message and the OPT record that it gets: in place of its own, if it has one. A message that was built here may be what is built
+/// of the reply; then it isn't read for it.
 #[derive(Debug, Drop)]
 pub struct ReplyMessage {
-    message: Message,
+    source: Source,
     opt: Option<OptRecord>,
-    built: Option<AdditionalBuilder>,
+    is_built: bool,
 }
 
 impl Model for ReplyMessage {
-    ghost use Rattle.dns_route.specs.ReplyMessage.{KeepsBuilt, ReplyState};
+    ghost use Rattle.dns_route.specs.ReplyMessage.{ReplyState};
+    ghost use Rattle.dns_route.specs.Sources.{KeepsBuilt, source_octets};
 
     ghost Value = { ReplyState };
 
-    ghost view = { λ r. record { octets = r.message; opt = r.opt } };
+    ghost view = { λ r. record { octets = source_octets r.source; opt = r.opt } };
 
-    ghost invariant = { λ r. KeepsBuilt (record { octets = r.message; opt = r.opt }) r.built };
+    ghost invariant = { λ r. KeepsBuilt (record { octets = source_octets r.source; opt = r.opt }) r.source r.is_built };
 }
 
 impl ComposeReply for ReplyMessage {
@@ -74,7 +84,7 @@ impl ComposeReply for ReplyMessage {
     /// An OPT record whose numbers are all 0 is begun if there was none. Refused LongOptData exactly if its options
     /// would pass 65,535 octets.
     fn add_opt<D: ComposeOptData>(&mut self, alloc: Global, opt: &D) -> Result<(), BuildDataError> {
-        self.built = None;
+        self.is_built = false;
         match &mut self.opt {
             Some(kept) => kept.push(alloc, opt),
             None => self.begin_opt(alloc, opt),
@@ -87,7 +97,7 @@ impl ComposeReply for ReplyMessage {
         &self,
         alloc: Global,
     ) -> Result<AdditionalBuilder, ReplyError> {
-        match self.built.as_ref() {
+        match self.kept() {
             Some(built) => match built.try_clone(alloc) {
                 Ok(copy) => Ok(copy),
                 Err(_) => Err(ReplyError::OutOfMemory),
@@ -98,11 +108,24 @@ impl ComposeReply for ReplyMessage {
 }
 
 impl ReplyMessage {
+    /// The message that is built of the reply, if it is kept.
+    fn kept(&self) -> Option<&AdditionalBuilder>
+        ensures { IfSome result (λ b. Composes (reply_message self.now) (Ok b.now)) }
+    {
+        if !self.is_built {
+            return None;
+        }
+        match &self.source {
+            Source::Built(built) => Some(built),
+            Source::Read(_) => None,
+        }
+    }
+
     /// The reply, whose message is read for it.
     fn read_again(&self, alloc: Global) -> Result<AdditionalBuilder, ReplyError>
         ensures { Composes (reply_message self.now) result }
     {
-        let copied = CopiedMessage::read(alloc, &self.message.for_ref())?;
+        let copied = CopiedMessage::read(alloc, &self.message())?;
         composed(alloc, copied, self.opt.as_ref())
     }
 
@@ -110,14 +133,13 @@ impl ReplyMessage {
     pub fn into_builder(self, alloc: Global) -> Result<AdditionalBuilder, ReplyError>
         ensures { Composes (reply_message self) result }
     {
-        let ReplyMessage {
-            message,
-            opt,
-            built,
-        } = self;
-        match built {
-            Some(built) => Ok(built),
-            None => ReplyMessage::of(message, opt).read_again(alloc),
+        if !self.is_built {
+            return self.read_again(alloc);
+        }
+        let ReplyMessage { source, opt, .. } = self;
+        match source {
+            Source::Built(built) => Ok(built),
+            Source::Read(message) => ReplyMessage::of(message, opt).read_again(alloc),
         }
     }
 
@@ -126,17 +148,20 @@ impl ReplyMessage {
         ensures { result ≡ record { octets = message; opt = opt } }
     {
         ReplyMessage {
-            message,
+            source: Source::Read(message),
             opt,
-            built: None,
+            is_built: false,
         }
     }
 
     /// The message that the reply is composed of. Its OPT record isn't the reply's.
-    pub fn message(&self) -> &Message
-        ensures { result.now ≡ self.now.octets }
+    pub fn message(&self) -> MessageRef<'_>
+        ensures { result ≡ self.now.octets }
     {
-        &self.message
+        match &self.source {
+            Source::Read(message) => message.for_ref(),
+            Source::Built(built) => built.as_message(),
+        }
     }
 
     /// The OPT record that the reply gets.
@@ -153,7 +178,7 @@ impl ReplyMessage {
     {
         let mut begun = OptRecord::default(alloc);
         begun.push(alloc, opt)?;
-        self.built = None;
+        self.is_built = false;
         self.opt = Some(begun);
         Ok(())
     }
@@ -167,12 +192,7 @@ impl ReplyMessage {
         ensures { IfOk result (λ r. r ≡ kept_whole built.message) }
     {
         let opt = own_record(alloc, &built)?;
-        let message = built.into_message();
-        Ok(ReplyMessage {
-            message,
-            opt,
-            built: None,
-        })
+        Ok(ReplyMessage::of(built.into_message(), opt))
     }
 
     /// A reply that is a message of our own, which is kept as built, so that it needn't be read and built again. It
@@ -182,11 +202,10 @@ impl ReplyMessage {
         ensures { IfOk result (λ r. r ≡ kept_whole built.message) }
     {
         let opt = own_record(alloc, &built)?;
-        let message = owned(alloc, &built.as_message())?;
         Ok(ReplyMessage {
-            message,
+            source: Source::Built(built),
             opt,
-            built: Some(built),
+            is_built: true,
         })
     }
 }

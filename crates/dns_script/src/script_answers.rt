@@ -21,21 +21,22 @@ use std::alloc::Global;
 pub fn make_answer(
     alloc: Global,
     message: &Message,
-    answer: ScriptAnswer,
+    answer: &ScriptAnswer,
+    memory: Vec<u8>,
 ) -> Result<Polled<Option<ServiceResult>>, OutOfMemory>
-    ensures { IfOk result (λ p. p ≡ given message.now answer) }
+    ensures { IfOk result (λ p. p ≡ given message.now answer.now) }
 {
-    match answer {
+    match *answer {
         ScriptAnswer::Pend => Ok(Polled::Pending),
         ScriptAnswer::Error(error) => Ok(Polled::Ready(Some(Err(error)))),
         ScriptAnswer::Feedback(feedback) => {
             Ok(Polled::Ready(Some(Ok(CallResult::feedback_only(feedback)))))
         }
         ScriptAnswer::Reply(reply) => {
-            let item = make_item(alloc, message, reply)?;
+            let item = make_item(alloc, message, reply, memory)?;
             Ok(Polled::Ready(Some(item)))
         }
-        ScriptAnswer::Both(feedback, reply) => make_both(alloc, message, feedback, reply),
+        ScriptAnswer::Both(feedback, reply) => make_both(alloc, message, feedback, reply, memory),
     }
 }
 
@@ -45,11 +46,12 @@ fn make_item(
     alloc: Global,
     message: &Message,
     reply: ScriptReply,
+    memory: Vec<u8>,
 ) -> Result<ServiceResult, OutOfMemory>
     ensures { IfOk result (λ i. i ≡ reply_item message.now reply) }
 {
     match reply {
-        ScriptReply::Rcode(rcode) => make_reply(alloc, message, rcode),
+        ScriptReply::Rcode(rcode) => make_reply(alloc, message, rcode, memory),
         ScriptReply::Blank(rcode) => make_blank(alloc, rcode),
         ScriptReply::Fill(len) => make_answered(alloc, message, Ttl::from_secs(0), len),
         ScriptReply::Opt(len) => make_padded(alloc, message, len),
@@ -63,10 +65,11 @@ fn make_both(
     message: &Message,
     feedback: ServiceFeedback,
     reply: ScriptReply,
+    memory: Vec<u8>,
 ) -> Result<Polled<Option<ServiceResult>>, OutOfMemory>
     ensures { IfOk result (λ p. p ≡ Polled.Ready (Some (item_with_feedback feedback (reply_item message.now reply)))) }
 {
-    match make_item(alloc, message, reply)? {
+    match make_item(alloc, message, reply, memory)? {
         Ok(given) => Ok(Polled::Ready(Some(Ok(given.with_feedback(feedback))))),
         Err(error) => Ok(Polled::Ready(Some(Err(error)))),
     }
@@ -82,7 +85,21 @@ pub(crate) fn begin(
     ensures { IfOk result (λ o. MatchOption o (have_room new_builder message.now rcode ≡ false)
         (λ b. (b ≡ answer_to new_builder message.now rcode) × (have_room new_builder message.now rcode ≡ true))) }
 {
-    let builder = MessageBuilder::new(alloc)?;
+    begin_in(alloc, message, rcode, Vec::new(alloc))
+}
+
+/// An answer to a message is begun in memory that is given; none if there is no room for the questions.
+#[inline(always)]
+fn begin_in(
+    alloc: Global,
+    message: &Message,
+    rcode: Rcode,
+    memory: Vec<u8>,
+) -> Result<Option<AnswerBuilder>, OutOfMemory>
+    ensures { IfOk result (λ o. MatchOption o (have_room new_builder message.now rcode ≡ false)
+        (λ b. (b ≡ answer_to new_builder message.now rcode) × (have_room new_builder message.now rcode ≡ true))) }
+{
+    let builder = MessageBuilder::in_memory(alloc, memory)?;
     match builder.start_answer(alloc, message, rcode) {
         Ok(reply) => Ok(Some(reply)),
         Err(PushError::ShortBuf) => Ok(None),
@@ -92,10 +109,15 @@ pub(crate) fn begin(
 
 /// A reply with this response code, or the error `servfail` if the questions have no room.
 #[inline(always)]
-fn make_reply(alloc: Global, message: &Message, rcode: Rcode) -> Result<ServiceResult, OutOfMemory>
+fn make_reply(
+    alloc: Global,
+    message: &Message,
+    rcode: Rcode,
+    memory: Vec<u8>,
+) -> Result<ServiceResult, OutOfMemory>
     ensures { IfOk result (λ i. i ≡ played_reply message.now rcode) }
 {
-    match begin(alloc, message, rcode)? {
+    match begin_in(alloc, message, rcode, memory)? {
         Some(reply) => Ok(Ok(CallResult::new(reply.additional()))),
         None => Ok(Err(ServiceError::InternalError)),
     }

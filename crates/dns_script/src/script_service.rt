@@ -15,6 +15,7 @@ use dns_service::{
     Polled, ReplyFuture, ReplyStream, Request, Service, ServiceError, ServiceResult,
 };
 use std::alloc::Global;
+use std::mem::replace;
 use std::sync::Arc;
 
 /// Answers each request by the first rule of a script: its answers, one poll each, and then the end.
@@ -50,6 +51,7 @@ impl Service<()> for ScriptService {
                 message,
                 answers,
                 next: 0,
+                memory: request.take_reply_memory(alloc),
             }),
         })
     }
@@ -126,6 +128,14 @@ impl ReplyFuture for ScriptFuture {
             None => Ok(Polled::Pending),
         }
     }
+
+    #[inline(always)]
+    fn into_stream(self) -> Result<ScriptStream, ScriptFuture> {
+        match self.stream {
+            Some(stream) => Ok(stream),
+            None => Err(ScriptFuture { stream: None }),
+        }
+    }
 }
 
 /// The answers that are left.
@@ -134,6 +144,7 @@ pub struct ScriptStream {
     message: Arc<Message>,
     answers: ScriptAnswers,
     next: usize,
+    memory: Vec<u8>,
 }
 
 impl ReplyStream for ScriptStream {
@@ -143,11 +154,12 @@ impl ReplyStream for ScriptStream {
 
     #[inline(always)]
     fn poll_next(&mut self, alloc: Global) -> Result<Polled<Option<ServiceResult>>, OutOfMemory> {
-        let Some(answer) = self.answers.as_slice().get(self.next).copied() else {
+        let Some(answer) = self.answers.as_slice().get(self.next) else {
             return Ok(Polled::Ready(None));
         };
         self.next += 1;
-        make_answer(alloc, &self.message, answer)
+        let memory = replace(&mut self.memory, Vec::new(alloc));
+        make_answer(alloc, &self.message, answer, memory)
     }
 
     fn size_hint(&self) -> (usize, Option<usize>) {

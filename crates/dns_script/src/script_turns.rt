@@ -44,7 +44,7 @@ impl ScriptTurns {
     {
         let answers = answers_for(alloc, self.rules.as_slice(), message)?;
         match answer_at(answers.as_slice(), k) {
-            Some(answer) => make_answer(alloc, message, answer),
+            Some(answer) => make_answer(alloc, message, &answer, Vec::new(alloc)),
             None => Ok(Polled::Ready(None)),
         }
     }

@@ -165,6 +165,7 @@ pub struct Request<Meta> {
     message: Arc<Message>,
     transport_ctx: TransportSpecificContext,
     num_reserved_bytes: u16,
+    reply_memory: Option<Vec<u8>>,
     metadata: Meta,
 }
 
@@ -249,7 +250,27 @@ impl<Meta> Request<Meta> {
             message,
             transport_ctx,
             num_reserved_bytes: 0,
+            reply_memory: None,
             metadata,
+        }
+    }
+
+    /// The request with memory in which a reply may be built.
+    pub fn with_reply_memory(self, memory: Vec<u8>) -> Self
+        ensures { result ≡ self }
+    {
+        let mut request = self;
+        request.reply_memory = Some(memory);
+        request
+    }
+
+    /// Memory in which a reply may be built. What stands in it is left over, and says nothing. The first call takes what was given.
+    pub fn take_reply_memory(&mut self, alloc: Global) -> Vec<u8>
+        ensures { self.new ≡ self.old }
+    {
+        match self.reply_memory.take() {
+            Some(memory) => memory,
+            None => Vec::new(alloc),
         }
     }
 
@@ -340,6 +361,7 @@ impl<Meta> Request<Meta> {
             message: self.message,
             transport_ctx: self.transport_ctx,
             num_reserved_bytes: self.num_reserved_bytes,
+            reply_memory: self.reply_memory,
             metadata,
         }
     }
@@ -359,6 +381,7 @@ impl<Meta> Request<Meta> {
             message,
             transport_ctx,
             num_reserved_bytes: self.num_reserved_bytes,
+            reply_memory: None,
             metadata,
         })
     }

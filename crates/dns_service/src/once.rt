@@ -68,4 +68,11 @@ impl<S: ReplyStream> ReplyFuture for Now<S> {
             None => Ok(Polled::Pending),
         }
     }
+
+    fn into_stream(self) -> Result<S, Now<S>> {
+        match self.stream {
+            Some(stream) => Ok(stream),
+            None => Err(Now { stream: None }),
+        }
+    }
 }

@@ -1,6 +1,6 @@
 //! Services, reply futures and reply streams by poll.
 
-ghost use Rattle.std.specs.Prelude.{◌≡◌, ℕ, IfOk, OnErr, OnOk, Option, Some, None, option_map, suc};
+ghost use Rattle.std.specs.Prelude.{◌≡◌, ℕ, IfOk, IfErr, OnErr, OnOk, Option, Some, None, option_map, suc};
 ghost use Rattle.std.specs.Option.{option_copied};
 ghost use Rattle.std.specs.Arc.{arc_value};
 ghost use Rattle.std.specs.Borrow.{sem};
@@ -213,6 +213,16 @@ pub trait ReplyFuture: Drop {
         ensures pending { IfOk result (IfPending
             (answer self.old 0 ≡ Polled.Pending × ((k : ℕ) → answer self.new k ≡ answer self.old (suc k)))) }
         ensures ready { IfOk result (IfReady (λ s. (k : ℕ) → Self.Stream.answer s k ≡ answer self.old k)) };
+
+    /// The stream, if it is there without a poll, and else the future. No answer is taken.
+    fn into_stream(self) -> Result<Self::Stream, Self>
+    where
+        Self: Sized,
+        ensures stream { IfOk result (λ s. (k : ℕ) → Self.Stream.answer s k ≡ answer self k) }
+        ensures future { IfErr result (λ f. f ≡ self) }
+    {
+        Err(self)
+    }
 }
 
 /// Answers requests: each call gives a future, that gives a stream of replies, and both are polled.

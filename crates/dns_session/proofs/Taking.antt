@@ -1,7 +1,7 @@
 -- Frames are taken one at a time.
 use Rattle.dns_session.specs.Serving.{Serving}
 use Rattle.std.proofs.Common.{◌≡◌, ℕ, ◌+◌, ◌<◌, ◌≤◌, List, [], ◌∷◌, ◌++◌, length, Option, Some, None, Bool, true, false, refl, ap, sym, ◌∙◌, subst, lt-ltb, arith, length-append}
-use Rattle.std.specs.Prelude.{nat_lt, if◌then◌else◌, MatchOption, Result, Ok, Err, OnErr}
+use Rattle.std.specs.Prelude.{nat_lt, if◌then◌else◌, slice_get, MatchOption, Result, Ok, Err, OnErr}
 use Rattle.std.proofs.lemmas.Bool.{false≢true, le-ltb}
 use Rattle.dns_name.specs.declared.address.SocketAddr.{SocketAddr}
 use Rattle.dns_base.specs.Header.{header_of}
@@ -17,8 +17,10 @@ use Rattle.dns_session.specs.Requests.{header_size, most_requests, request_of_fr
 use Rattle.dns_session.specs.Connections.{enqueue_or_drop, take_frames, take_frame, piece}
 use Rattle.dns_session.specs.Invoker.{finds_room, offered, queued_behind}
 use Rattle.dns_session.specs.Goings.{Leads, Asks, TakesFrame, TakesMessage, outputs_of, refusing, state_behind}
-use Rattle.dns_session.specs.Stands.{IsGoing, IsOpen, KeepsAll, StandsIn}
-use Rattle.dns_session.specs.Unfinished.{Enters}
+use Rattle.dns_session.specs.Stands.{IsGoing, IsOpen, KeepsAll, KeepsGoing, StandsIn}
+use Rattle.dns_session.specs.Unfinished.{Enters, IsInOrder, request_at}
+use Rattle.dns_session.specs.declared.spares.Spares.{Spares}
+use Rattle.dns_session.specs.declared.unfinished.Unfinished.{Unfinished}
 use Rattle.dns_session.specs.declared.client.State.TheVariants.{Open as Is_open}
 use Rattle.dns_session.specs.declared.connection.OpenConnection.{OpenConnection}
 use Rattle.dns_session.specs.declared.outcome.Outcome.{Outcome}
@@ -53,6 +55,31 @@ asks_by {W} {R} {F} answer answers old new r q few enters rest kept =
             each = keeps_push answer answers old.unfinished new.unfinished rs old.unfinished.count (unpolled r) q h.made h.each e.others e.here kept;
           });
     }
+
+-- the messages that are kept for the next requests say nothing of those that aren't done
+module _ {Q : Type 0} (u : Unfinished Q) (s : Spares) where
+  abbrev beside : Unfinished Q
+  beside = record u { spares = s }
+
+  same_request : (k : ℕ) → request_at beside k ≡ request_at u k
+  unfolding request_at
+  same_request k = refl
+
+  same_order : IsInOrder u → IsInOrder beside
+  same_order h = record { row = h.row; passed = h.passed }
+
+pub asks_beside : {W R F : Type 0} (answer : PolledRequest F R → ℕ → Answer) (answers : Serving) (old new : OpenConnection W R F) (r : Req (Unit {0})) (s : Spares)
+    → Asks answer answers (record old { unfinished = record old.unfinished { spares = s } }) new r
+    → Asks answer answers old new r
+asks_beside {W} {R} {F} answer answers old new r s asks = record {
+  others = asks.others;
+  made = λ rs h. asks.made rs (record {
+    made = h.made;
+    held_open = h.held_open;
+    in_order = same_order old.unfinished s h.in_order;
+    each = λ k. subst (λ q. KeepsGoing answer answers q (slice_get rs k)) (sym (same_request old.unfinished s k)) (h.each k);
+  });
+}
 
 pub on_each_err : {T E P : Type 0} (r : Result T E) → P → OnErr r P
 on_each_err (Ok x) p = tt

@@ -22,7 +22,7 @@ use crate::connection_request::{ConnectionRequest, ask, recount, turn_at};
 use crate::flushing::FlushingConnection;
 use crate::kept::refused;
 use crate::outcome::Outcome;
-use crate::requests::frame_request;
+use crate::requests::{frame_request, shared_in};
 use crate::unfinished::Unfinished;
 use dns_base::{Message, SocketAddr};
 use dns_events::{ConnectionConfig, Event, EventKind, StreamConfig, Why};
@@ -250,8 +250,10 @@ impl<W: SharedService> OpenConnection<W> {
             (request_of_frame self.old.invoker.idle_timeout self.old.addr at secs message)) }
     {
         let idle_timeout = self.invoker.idle_timeout;
-        let request = frame_request(alloc, idle_timeout, self.addr, at, secs, message)?;
-        self.ask(alloc, service, request)
+        let mut spare = self.unfinished.spares.take();
+        let (shared, memory) = shared_in(alloc, &mut spare, message)?;
+        let request = frame_request(idle_timeout, self.addr, at, secs, shared);
+        self.ask(alloc, service, request.with_reply_memory(memory))
     }
 
     /// Octets of the stream came.

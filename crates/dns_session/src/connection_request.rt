@@ -56,6 +56,15 @@ pub fn ask<W: SharedService>(
     })
 }
 
+impl<F: Drop, R: Drop> ConnectionRequest<F, R> {
+    /// The message, of a request that is polled no more.
+    pub(crate) fn into_message(self) -> Arc<Message>
+        ensures { result ≡ self.message }
+    {
+        self.message
+    }
+}
+
 impl<F, R> ConnectionRequest<F, R>
 where
     F: ReplyFuture<Stream = R>,

@@ -132,9 +132,9 @@ fn begin_message<W: SharedService>(
     if message.header().qr {
         return refuse::<W>(alloc, &message, config);
     }
-    let shared = shared_in(alloc, spare, message)?;
+    let (shared, memory) = shared_in(alloc, spare, message)?;
     let request = shared_request(config, addr, at, secs, shared);
-    ask(alloc, service, request)
+    ask(alloc, service, request.with_reply_memory(memory))
 }
 
 /// Asks the service a datagram's request.

@@ -50,16 +50,34 @@ pub fn call<W: SharedService>(
     Ok(kept_of(future, request))
 }
 
+/// The stream of a future, if it is there without a poll, and else the future.
+#[inline(always)]
+fn stream_or_future<F, R>(future: F) -> PolledRequest<F, R>
+where
+    F: ReplyFuture<Stream = R>,
+    R: ReplyStream,
+    ensures { (k : ℕ) → request_answer F.answer R.answer result k ≡ F.answer future k }
+{
+    match future.into_stream() {
+        Ok(stream) => PolledRequest::Stream(stream),
+        Err(future) => PolledRequest::Future(future),
+    }
+}
+
 /// What is kept of a request that was called.
+#[inline(always)]
 fn kept_of<F, R>(future: F, request: Request<()>) -> KeptRequest<F, R>
-    ensures polled { result.polled ≡ PolledRequest.Future future }
+where
+    F: ReplyFuture<Stream = R>,
+    R: ReplyStream,
+    ensures answers { (k : ℕ) → request_answer F.answer R.answer result.polled k ≡ F.answer future k }
     ensures message { arc_value result.message ≡ request.octets }
     ensures limit { result.limit ≡ limit_over request.transport (limit (hint_of request.transport)) }
 {
     let transport = request.transport_ctx();
     let limit = limit_over(transport, transport.hint());
     KeptRequest {
-        polled: PolledRequest::Future(future),
+        polled: stream_or_future(future),
         message: request.into_message(),
         limit,
     }

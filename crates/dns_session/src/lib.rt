@@ -44,6 +44,7 @@ mod outcome;
 mod polling;
 mod requests;
 mod sent;
+mod spares;
 mod states;
 mod unfinished;
 

@@ -1,7 +1,7 @@
 //! Requests of messages, and messages of replies.
 
 ghost use Rattle.std.specs.Arc.{arc_value};
-ghost use Rattle.std.specs.Prelude.{◌≡◌, IfOk, IfSome, IsNone};
+ghost use Rattle.std.specs.Prelude.{◌≡◌, IfErr, IfOk, OnOk};
 ghost use Rattle.dns_base.specs.Wire.{wire};
 ghost use Rattle.dns_session.specs.Datagrams.{cut_datagram};
 ghost use Rattle.dns_session.specs.Requests.{request_of_datagram, request_of_frame};
@@ -11,6 +11,7 @@ use dns_events::DgramConfig;
 use dns_framing::{NonUdpTransportContext, Request, TransportSpecificContext, UdpTransportContext};
 use dns_name::{Octets, OutOfMemory};
 use std::alloc::Global;
+use std::mem::replace;
 use std::sync::Arc;
 
 /// How many octets of a datagram are read.
@@ -64,35 +65,34 @@ pub fn shared_request(
     Request::of_shared(addr, at, secs, message, transport, ())
 }
 
-/// A message takes the place of one in which nothing else has a share. Otherwise it is given back.
-fn put_in(shared: &mut Arc<Message>, message: Message) -> Option<Message>
-    ensures put { IsNone result → arc_value shared.new ≡ message }
-    ensures back { IfSome result (λ m. m ≡ message) }
+/// A message takes the place of one in which nothing else has a share, and the memory of that one is given. Otherwise the message is
+/// given back.
+fn put_in(shared: &mut Arc<Message>, message: Message) -> Result<Vec<u8>, Message>
+    ensures put { OnOk result (arc_value shared.new ≡ message) }
+    ensures back { IfErr result (λ m. m ≡ message) }
 {
     match Arc::get_mut(shared) {
-        Some(place) => {
-            *place = message;
-            None
-        }
-        None => Some(message),
+        Some(place) => Ok(replace(place, message).into_octets()),
+        None => Err(message),
     }
 }
 
-/// A message that is shared from now on, in the place of the one that is given if nothing else has a share in that.
+/// A message that is shared from now on, in the place of the one that is given if nothing else has a share in that. The memory of
+/// that one is given too.
 #[inline(always)]
 pub fn shared_in(
     alloc: Global,
     spare: &mut Option<Arc<Message>>,
     message: Message,
-) -> Result<Arc<Message>, OutOfMemory>
-    ensures { IfOk result (λ m. arc_value m ≡ message) }
+) -> Result<(Arc<Message>, Vec<u8>), OutOfMemory>
+    ensures { IfOk result (λ p. arc_value p.0 ≡ message) }
 {
     let Some(mut shared) = spare.take() else {
-        return shared_anew(alloc, message);
+        return Ok((shared_anew(alloc, message)?, Vec::new(alloc)));
     };
     match put_in(&mut shared, message) {
-        None => Ok(shared),
-        Some(message) => shared_anew(alloc, message),
+        Ok(memory) => Ok((shared, memory)),
+        Err(message) => Ok((shared_anew(alloc, message)?, Vec::new(alloc))),
     }
 }
 
@@ -104,21 +104,19 @@ fn shared_anew(alloc: Global, message: Message) -> Result<Arc<Message>, OutOfMem
     Ok(Arc::new(alloc, message)?)
 }
 
-/// The request of a frame of a connection that may be idle for so long.
+/// The request of a frame of a connection that may be idle for so long, whose message is shared already.
 pub fn frame_request(
-    alloc: Global,
     idle_timeout: u64,
     addr: SocketAddr,
     at: u64,
     secs: u64,
-    message: Message,
-) -> Result<Request<()>, OutOfMemory>
-    ensures { IfOk result (λ r. r ≡ request_of_frame idle_timeout addr at secs message) }
+    message: Arc<Message>,
+) -> Request<()>
+    ensures { result ≡ request_of_frame idle_timeout addr at secs (arc_value message) }
 {
     let context = NonUdpTransportContext::new(Some(idle_timeout));
     let transport = TransportSpecificContext::NonUdp(context);
-    let request = Request::new(alloc, addr, at, secs, message, transport, ())?;
-    Ok(request)
+    Request::of_shared(addr, at, secs, message, transport, ())
 }
 
 /// A reply as a datagram, which is not copied.

@@ -2,18 +2,22 @@
 
 ghost use Rattle.std.specs.Prelude.{◌≡◌, ℕ, ◌+◌, ◌<◌, ◌≤◌, OnOk, MatchOption, None, [], length};
 
+use crate::connection_request::ConnectionRequest;
+use crate::spares::Spares;
 use dns_name::OutOfMemory;
 use std::alloc::Global;
 use std::collections::{BTreeMap, VecDeque};
 use std::ops::Bound;
 
 /// What is kept of the requests of a connection that aren't done: how many requests were made; a row of those of the last numbers,
-/// without a gap; and, of those before the row, the ones that were passed by, since one after them was done before them.
+/// without a gap; and, of those before the row, the ones that were passed by, since one after them was done before them. Messages of
+/// those that are done are kept for the next ones.
 #[derive(Drop)]
 pub struct Unfinished<Q> {
     pub(crate) count: u64,
     pub(crate) row: VecDeque<Q>,
     pub(crate) passed: BTreeMap<u64, Q>,
+    pub(crate) spares: Spares,
 }
 
 impl<Q> Unfinished<Q> {
@@ -29,6 +33,7 @@ impl<Q> Unfinished<Q> {
             count: 0,
             row: VecDeque::new(alloc),
             passed: BTreeMap::new(alloc),
+            spares: Spares::new(alloc),
         }
     }
 
@@ -100,7 +105,7 @@ impl<Q> Unfinished<Q> {
 }
 
 impl<Q: Drop> Unfinished<Q> {
-    ghost use Rattle.dns_session.specs.Unfinished.{Enters, LetsGo, PassesBy, row_start};
+    ghost use Rattle.dns_session.specs.Unfinished.{Enters, PassesBy};
 
     /// Enters a request under the next number.
     pub fn enter(&mut self, kept: Q) -> Result<(), OutOfMemory>
@@ -137,6 +142,10 @@ impl<Q: Drop> Unfinished<Q> {
         }
         Ok(())
     }
+}
+
+impl<F: Drop, R: Drop> Unfinished<ConnectionRequest<F, R>> {
+    ghost use Rattle.dns_session.specs.Unfinished.{LetsGo, row_start};
 
     /// Lets go of the request at a place of the row, which is done.
     pub(crate) fn let_go(&mut self, place: usize) -> Result<(), OutOfMemory>
@@ -144,7 +153,8 @@ impl<Q: Drop> Unfinished<Q> {
         ensures { OnOk result (LetsGo self.old (row_start self.old + place) self.new) }
     {
         self.pass_before(place)?;
-        let _done = self.row.pop_front();
+        let done = self.row.pop_front();
+        self.spares.keep(done);
         Ok(())
     }
 }

@@ -4,7 +4,7 @@ ghost use Rattle.std.specs.Prelude.{◌≡◌, IfOk, Ok, nat_lt, if◌then◌els
 ghost use Rattle.dns_service.specs.declared.service.Polled.TheVariants.{Pending, Ready};
 
 use crate::request_rows::request_from;
-use crate::router_rows::{Refusing, answer_said, copy};
+use crate::router_rows::{Refusing, answer_said};
 use crate::words::message;
 use dns_base::Message;
 use dns_cache::Cache;
@@ -42,7 +42,8 @@ fn same_reply(alloc: Global, reply: &ReplyMessage) -> Result<ReplyMessage, OutOf
         Some(record) => Some(record.for_slice().to_owned(alloc)?),
         None => None,
     };
-    Ok(ReplyMessage::of(copy(alloc, reply.message())?, opt))
+    let octets = Vec::from_slice(alloc, reply.message().as_slice())?;
+    Ok(ReplyMessage::of(Message::of(octets), opt))
 }
 
 /// The reply of the next words: how often its service is pending, and a message.

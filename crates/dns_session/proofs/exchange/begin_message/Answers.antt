@@ -19,4 +19,4 @@ returns g c =
     let a = request_answer g.W.Future.ReplyFuture.answer g.W.Stream.ReplyStream.answer in
     let b = serving (g.W.SharedService.answer c.args.service.now) (g.W.SharedService.hint c.args.service.now) in
     let query : (header_of c.args.message).qr ≡ false = rw (← c.header.ensures) c.if-header.false in
-    IfOk-weaker c.ask.result _ _ (λ p says long n s unused d. begun_query a b p.0 n c.args.addr c.args.at c.args.secs c.args.message c.args.config.now (datagrams_to n p.1) s unused long query says.1 d (ap (datagrams_to n) says.0)) (rw (c.shared_request-request.ensures, c.in_ok-shared.ensures) at c.ask.ensures)
+    IfOk-weaker c.ask.result _ _ (λ p says long n s unused d. begun_query a b p.0 n c.args.addr c.args.at c.args.secs c.args.message c.args.config.now (datagrams_to n p.1) s unused long query says.1 d (ap (datagrams_to n) says.0)) (rw (c.with_reply_memory.ensures, c.shared_request-request.ensures, c.in_ok-shared.ensures) at c.ask.ensures)

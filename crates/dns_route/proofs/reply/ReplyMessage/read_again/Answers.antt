@@ -14,15 +14,13 @@ use Rattle.dns_route.proofs.reply.ReplyMessage.read_again.Goals as goal
 pub returns-in_err-copied : goal.returns-in_err-copied
 returns-in_err-copied c =
     let p = err_from_is_err_and c.from_residual.result c.from_residual.ensures.1 in
-    let o : c.for_ref.result ≡ c.args.self.now.octets = c.for_ref.ensures.value ∙ ap (λ r. r.octets) c.self.view_is in
-    let g = subst (λ l. GivesParsed (Err c.in_err-copied.field-0.0) (copied l)) o c.in_err-copied.ensures in
+    let g = subst (λ l. GivesParsed (Err c.in_err-copied.field-0.0) (copied l)) c.message.ensures c.in_err-copied.ensures in
     rw (p.1, p.2) (copy_refused c.args.self.now.opt (copied c.args.self.now.octets) c.in_err-copied.field-0.0 g)
 
 pub returns : goal.returns
 returns c =
     let m = c.in_ok-copied.copied in
-    let o : c.for_ref.result ≡ c.args.self.now.octets = c.for_ref.ensures.value ∙ ap (λ r. r.octets) c.self.view_is in
-    let g : copied c.args.self.now.octets ≡ Ok m = subst (λ l. copied l ≡ Ok m) o c.in_ok-copied.ensures in
+    let g : copied c.args.self.now.octets ≡ Ok m = subst (λ l. copied l ≡ Ok m) c.message.ensures c.in_ok-copied.ensures in
     let p : option_copied c.as_ref.result ≡ c.args.self.now.opt = c.as_ref.ensures.value ∙ ap (λ r. r.opt) c.self.view_is in
     let e : reply_message c.args.self.now ≡ Ok (and_opt m (option_copied c.as_ref.result)) = ap (reply_with_opt c.args.self.now.opt) g ∙ ap (λ (k : Option OptState). Ok (and_opt m k)) (sym p) in
     subst (λ (r : Result Msg ParseError). Composes r c.composed.result) (sym e) c.composed.ensures

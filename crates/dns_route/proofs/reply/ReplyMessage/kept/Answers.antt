@@ -1,0 +1,12 @@
+use Rattle.std.proofs.Common.{Bool, true, subst}
+use Rattle.dns_route.specs.declared.reply.Source.{Source}
+use Rattle.dns_route.specs.ReplyMessage.{ReplyState}
+use Rattle.dns_route.specs.Sources.{KeepsBuilt}
+use Rattle.dns_route.proofs.reply.ReplyMessage.kept.Goals as goal
+
+pub returns-in-Built : goal.returns-in-Built
+returns-in-Built c =
+    let i = c.self.inside in
+    let kept = subst (λ (r : ReplyState). KeepsBuilt r i.source i.is_built) c.self.view_is c.self.invariant in
+    let whole = subst (λ (b : Bool). KeepsBuilt c.args.self.now i.source b) c.if-not-self.false kept in
+    subst (λ (s : Source). KeepsBuilt c.args.self.now s true) c.in-Built.is whole
