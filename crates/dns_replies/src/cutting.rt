@@ -87,7 +87,7 @@ fn without_opt(
     requires { limit ≤ 65535 }
     ensures { IfOk result (λ b. b.message ≡ shortened limit message.now.message None) }
 {
-    match asked(alloc, message, limit)? {
+    match with_questions(alloc, message, limit)? {
         Some(shorter) => Ok(shorter),
         None => Ok(bare(alloc, message)?.question().additional()),
     }
@@ -104,7 +104,7 @@ fn with_opt(
     requires lawful { IsLawful opt.now.rdata }
     ensures { IfOk result (λ b. b.message ≡ shortened limit message.now.message (Some (record_of opt.now))) }
 {
-    match asked_with(alloc, message, opt, limit)? {
+    match with_questions_and_opt(alloc, message, opt, limit)? {
         Some(shorter) => Ok(shorter),
         None => alone(alloc, message, opt),
     }
@@ -112,7 +112,7 @@ fn with_opt(
 
 /// The questions and the OPT record, or the questions and a minimal one, if they fit.
 #[tactic(auto, using(crate::proofs::CutLaws::neither))]
-fn asked_with(
+fn with_questions_and_opt(
     alloc: Global,
     message: &AdditionalBuilder,
     opt: &Record,
@@ -124,7 +124,7 @@ fn asked_with(
         (λ o. o ≡ or_else (built_fitting limit (truncated m m.questions (record_of opt.now ∷ [])))
         (built_fitting limit (truncated m m.questions (minimal (record_of opt.now) ∷ [])))) }
 {
-    match asked(alloc, message, limit)? {
+    match with_questions(alloc, message, limit)? {
         Some(shorter) => either_built(alloc, shorter, opt),
         None => Ok(None),
     }
@@ -196,7 +196,7 @@ fn minimal_added(
 }
 
 /// The header with TC and the questions, if they fit.
-fn asked(
+fn with_questions(
     alloc: Global,
     message: &AdditionalBuilder,
     limit: usize,
