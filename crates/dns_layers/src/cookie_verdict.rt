@@ -29,7 +29,7 @@ pub enum CookieVerdict {
 #[derive(Clone, Copy, Debug)]
 pub enum CookieAnswer {
     /// The header alone, truncated or not.
-    Zero { rcode: Rcode, tc: bool },
+    HeaderAlone { rcode: Rcode, tc: bool },
     /// An answer with a new cookie, made of the client part of this one.
     Fresh { rcode: OptRcode, cookie: Cookie },
 }
@@ -81,7 +81,7 @@ fn own_answer(verdict: CookieVerdict, unasked: bool, denied: bool) -> Option<Coo
     match verdict {
         CookieVerdict::Absent => {
             if denied {
-                Some(CookieAnswer::Zero {
+                Some(CookieAnswer::HeaderAlone {
                     rcode: Rcode::REFUSED,
                     tc: true,
                 })
@@ -89,7 +89,7 @@ fn own_answer(verdict: CookieVerdict, unasked: bool, denied: bool) -> Option<Coo
                 None
             }
         }
-        CookieVerdict::Malformed => Some(CookieAnswer::Zero {
+        CookieVerdict::Malformed => Some(CookieAnswer::HeaderAlone {
             rcode: Rcode::FORMERR,
             tc: false,
         }),
