@@ -25,7 +25,7 @@ use Rattle.dns_service.specs.Req.{Req}
 use Rattle.dns_layers.specs.declared.cookie_verdict.CookieVerdict.{CookieVerdict}
 use Rattle.dns_layers.specs.declared.cookie_verdict.CookieVerdict.TheVariants.{Absent, Malformed, Bare, Good, Wrong}
 use Rattle.dns_layers.specs.declared.cookie_verdict.CookieAnswer.{CookieAnswer}
-use Rattle.dns_layers.specs.declared.cookie_verdict.CookieAnswer.TheVariants.{Zero, Fresh}
+use Rattle.dns_layers.specs.declared.cookie_verdict.CookieAnswer.TheVariants.{HeaderAlone, Fresh}
 use Rattle.dns_layers.specs.Rewritten.{hint_by, own_reply}
 
 -- ---- how a cookie is taken
@@ -60,8 +60,8 @@ verdict secret r = verdict_by secret r.client_addr.ip (r.received_secs % 2 ^ 32)
 -- read; a new cookie to a request that has no question, with BADCOOKIE if its own was wrong; and a new cookie with BADCOOKIE to
 -- a request that has questions, if its own isn't good and its address is denied
 abbrev pub own_answer : CookieVerdict → Bool → Bool → Option CookieAnswer
-own_answer Absent unasked denied = if denied then Some (Zero refused_code true) else None
-own_answer Malformed unasked denied = Some (Zero formerr false)
+own_answer Absent unasked denied = if denied then Some (HeaderAlone refused_code true) else None
+own_answer Malformed unasked denied = Some (HeaderAlone formerr false)
 own_answer (Good c) unasked denied = if unasked then Some (Fresh noerror c) else None
 own_answer (Bare c) unasked denied = if unasked then Some (Fresh noerror c) else (if denied then Some (Fresh badcookie c) else None)
 own_answer (Wrong c) unasked denied = if unasked || denied then Some (Fresh badcookie c) else None
@@ -108,7 +108,7 @@ fresh_reply o code c = if have_room begun_reply o (code % 16)
 
 -- the message of such an answer: a cookie is made of the client part that was sent, at this time
 abbrev pub own_message : List ℕ → List ℕ → ℕ → IpAddr → CookieAnswer → Msg
-own_message secret o now address (Zero code tc) = zero_reply code tc
+own_message secret o now address (HeaderAlone code tc) = zero_reply code tc
 own_message secret o now address (Fresh code c) = fresh_reply o code (response secret c now address)
 
 -- the layer's own reply, if the layer is on and has one

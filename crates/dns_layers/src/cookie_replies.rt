@@ -88,7 +88,7 @@ fn own_message(
     ensures { IfOk result (λ b. b.message ≡ own_message secret.now request.now now.0 address answer) }
 {
     match answer {
-        CookieAnswer::Zero { rcode, tc } => zero_reply(alloc, rcode, tc),
+        CookieAnswer::HeaderAlone { rcode, tc } => zero_reply(alloc, rcode, tc),
         CookieAnswer::Fresh { rcode, cookie } => {
             let made = cookie.create_response(now, address, secret);
             fresh_reply(alloc, request, rcode, made)

@@ -29,7 +29,7 @@ pub enum CookieVerdict {
 #[derive(Clone, Copy, Debug)]
 pub enum CookieAnswer {
     /// The header alone, truncated or not.
-    Zero { rcode: Rcode, tc: bool },
+    HeaderAlone { rcode: Rcode, tc: bool },
     /// An answer with a new cookie, made of the client part of this one.
     Fresh { rcode: OptRcode, cookie: Cookie },
 }
@@ -81,7 +81,7 @@ fn own_answer(verdict: CookieVerdict, unasked: bool, denied: bool) -> Option<Coo
     match verdict {
         CookieVerdict::Absent => {
             if denied {
-                Some(CookieAnswer::Zero {
+                Some(CookieAnswer::HeaderAlone {
                     rcode: Rcode::REFUSED,
                     tc: true,
                 })
@@ -89,7 +89,7 @@ fn own_answer(verdict: CookieVerdict, unasked: bool, denied: bool) -> Option<Coo
                 None
             }
         }
-        CookieVerdict::Malformed => Some(CookieAnswer::Zero {
+        CookieVerdict::Malformed => Some(CookieAnswer::HeaderAlone {
             rcode: Rcode::FORMERR,
             tc: false,
         }),
@@ -118,28 +118,11 @@ fn fresh_where(wanted: bool, rcode: OptRcode, cookie: Cookie) -> Option<CookieAn
     }
 }
 
-/// Whether two addresses are the same.
-fn same_address(one: &IpAddr, other: &IpAddr) -> bool
-    ensures { result ≡ same_address one.now other.now }
-{
-    match (one, other) {
-        (IpAddr::V4(a), IpAddr::V4(b)) => a.as_slice() == b.as_slice(),
-        (IpAddr::V6(a), IpAddr::V6(b)) => a.as_slice() == b.as_slice(),
-        (IpAddr::V4(_), IpAddr::V6(_)) => false,
-        (IpAddr::V6(_), IpAddr::V4(_)) => false,
-    }
-}
-
 /// Whether an address is among some.
 fn is_among(addresses: &[IpAddr], address: IpAddr) -> bool
     ensures { result ≡ list_any (same_address address) addresses.now }
 {
-    for other in addresses {
-        if same_address(&address, other) {
-            return true;
-        }
-    }
-    false
+    addresses.contains(&address)
 }
 
 /// Whether a request is a datagram from an address that is denied.

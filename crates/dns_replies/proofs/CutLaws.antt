@@ -82,24 +82,24 @@ pub unfit : (n : ℕ) (m : Msg) → n < length (wire m) → built_fitting n m �
 unfit n m h = other _ _ _ _ h
 
 -- the questions are copied
-pub asked_all : (m : Msg) (n : ℕ) (new : Built) → 12 ≤ n → with_copied (at m n []) m.questions ≡ (new, true) → Some new ≡ built_fitting n (truncated m m.questions [])
-asked_all m n new h g =
+pub questions_fit : (m : Msg) (n : ℕ) (new : Built) → 12 ≤ n → with_copied (at m n []) m.questions ≡ (new, true) → Some new ≡ built_fitting n (truncated m m.questions [])
+questions_fit m n new h g =
     let s = size m m.questions [] in
     elim (cases_lt n (12 + asking m.questions)) [
       | inl y ↦ (let k : false ≡ true = sym (copied_past m n m.questions [] h y) ∙ ap (λ (p : Built × Bool). p.1) g in absurd (cc))
       | inr y ↦ ap (λ (p : Built × Bool). Some p.0) (sym g ∙ copied_within m n m.questions [] y) ∙ sym (fit n (truncated m m.questions []) (omega (arith, s)))
     ]
 
-pub asked_less : (m : Msg) (n : ℕ) (new : Built) → with_copied (at m n []) m.questions ≡ (new, false) → None ≡ built_fitting n (truncated m m.questions [])
-asked_less m n new g =
+pub questions_past : (m : Msg) (n : ℕ) (new : Built) → with_copied (at m n []) m.questions ≡ (new, false) → None ≡ built_fitting n (truncated m m.questions [])
+questions_past m n new g =
     let s = size m m.questions [] in
     elim (cases_lt n (12 + asking m.questions)) [
       | inl y ↦ sym (unfit n (truncated m m.questions []) (omega (arith, s)))
       | inr y ↦ (let k : true ≡ false = sym (ap (λ (p : Built × Bool). p.1) (copied_within m n m.questions [] y)) ∙ ap (λ (p : Built × Bool). p.1) g in absurd (cc))
     ]
 
-pub asked_none : (m : Msg) (n : ℕ) → n < 12 → None ≡ built_fitting n (truncated m m.questions [])
-asked_none m n h = let s = size m m.questions [] in sym (unfit n (truncated m m.questions []) (omega (arith, s)))
+pub questions_never : (m : Msg) (n : ℕ) → n < 12 → None ≡ built_fitting n (truncated m m.questions [])
+questions_never m n h = let s = size m m.questions [] in sym (unfit n (truncated m m.questions []) (omega (arith, s)))
 
 -- the questions of a message, by what an iterator over them gives
 pub copied_given : (m : Msg) (n : ℕ) (b new : Built) (items : List (Result Question ParseError)) (all want : Bool) →

@@ -21,11 +21,11 @@ use std::alloc::Global;
 
 /// Truncates a message that has more than that many octets (RFC 6891, section 7). A message that has no more isn't copied.
 #[inline(always)]
-pub fn cut(alloc: Global, message: &mut AdditionalBuilder, limit: usize) -> Result<(), OutOfMemory>
+pub fn cut(alloc: Global, message: &mut AdditionalBuilder, limit: u16) -> Result<(), OutOfMemory>
     ensures ok { OnOk result (message.new ≡ cut_built limit message.old) }
     ensures err { OnErr result (message.new ≡ message.old) }
 {
-    if message.as_slice().len() <= limit {
+    if message.as_slice().len() <= limit as usize {
         return Ok(());
     }
     cut_longer(alloc, message, limit)
@@ -33,16 +33,11 @@ pub fn cut(alloc: Global, message: &mut AdditionalBuilder, limit: usize) -> Resu
 
 /// Truncates a message that has more than that many octets.
 #[inline(never)]
-fn cut_longer(
-    alloc: Global,
-    message: &mut AdditionalBuilder,
-    limit: usize,
-) -> Result<(), OutOfMemory>
+fn cut_longer(alloc: Global, message: &mut AdditionalBuilder, limit: u16) -> Result<(), OutOfMemory>
     requires { limit < length (wire message.old.message) }
     ensures ok { OnOk result (message.new ≡ cut_built limit message.old) }
     ensures err { OnErr result (message.new ≡ message.old) }
 {
-    let _message = message.as_slice();
     let mut shorter = shortened(alloc, message, limit)?;
     shorter.set_push_limit(message.push_limit());
     *message = shorter;
@@ -53,9 +48,8 @@ fn cut_longer(
 fn shortened(
     alloc: Global,
     message: &AdditionalBuilder,
-    limit: usize,
+    limit: u16,
 ) -> Result<AdditionalBuilder, OutOfMemory>
-    requires { limit ≤ 65535 }
     ensures { IfOk result (λ b. b.message ≡ shortened limit message.now.message (opt_record_in message.now.message)) }
 {
     match opt_record_in(alloc, message)? {
@@ -69,10 +63,9 @@ fn with_own_opt(
     alloc: Global,
     message: &AdditionalBuilder,
     opt: Record,
-    limit: usize,
+    limit: u16,
 ) -> Result<AdditionalBuilder, OutOfMemory>
-    requires limit { limit ≤ 65535 }
-    requires lawful { IsLawful opt.rdata }
+    requires { IsLawful opt.rdata }
     ensures { IfOk result (λ b. b.message ≡ shortened limit message.now.message (Some (record_of opt))) }
 {
     with_opt(alloc, message, &opt, limit)
@@ -82,12 +75,11 @@ fn with_own_opt(
 fn without_opt(
     alloc: Global,
     message: &AdditionalBuilder,
-    limit: usize,
+    limit: u16,
 ) -> Result<AdditionalBuilder, OutOfMemory>
-    requires { limit ≤ 65535 }
     ensures { IfOk result (λ b. b.message ≡ shortened limit message.now.message None) }
 {
-    match asked(alloc, message, limit)? {
+    match with_questions(alloc, message, limit)? {
         Some(shorter) => Ok(shorter),
         None => Ok(bare(alloc, message)?.question().additional()),
     }
@@ -98,13 +90,12 @@ fn with_opt(
     alloc: Global,
     message: &AdditionalBuilder,
     opt: &Record,
-    limit: usize,
+    limit: u16,
 ) -> Result<AdditionalBuilder, OutOfMemory>
-    requires limit { limit ≤ 65535 }
-    requires lawful { IsLawful opt.now.rdata }
+    requires { IsLawful opt.now.rdata }
     ensures { IfOk result (λ b. b.message ≡ shortened limit message.now.message (Some (record_of opt.now))) }
 {
-    match asked_with(alloc, message, opt, limit)? {
+    match with_questions_and_opt(alloc, message, opt, limit)? {
         Some(shorter) => Ok(shorter),
         None => alone(alloc, message, opt),
     }
@@ -112,19 +103,18 @@ fn with_opt(
 
 /// The questions and the OPT record, or the questions and a minimal one, if they fit.
 #[tactic(auto, using(crate::proofs::CutLaws::neither))]
-fn asked_with(
+fn with_questions_and_opt(
     alloc: Global,
     message: &AdditionalBuilder,
     opt: &Record,
-    limit: usize,
+    limit: u16,
 ) -> Result<Option<AdditionalBuilder>, OutOfMemory>
-    requires limit { limit ≤ 65535 }
-    requires lawful { IsLawful opt.now.rdata }
+    requires { IsLawful opt.now.rdata }
     ensures { let m = message.now.message in IfOk result
         (λ o. o ≡ or_else (built_fitting limit (truncated m m.questions (record_of opt.now ∷ [])))
         (built_fitting limit (truncated m m.questions (minimal (record_of opt.now) ∷ [])))) }
 {
-    match asked(alloc, message, limit)? {
+    match with_questions(alloc, message, limit)? {
         Some(shorter) => either_built(alloc, shorter, opt),
         None => Ok(None),
     }
@@ -196,12 +186,11 @@ fn minimal_added(
 }
 
 /// The header with TC and the questions, if they fit.
-fn asked(
+fn with_questions(
     alloc: Global,
     message: &AdditionalBuilder,
-    limit: usize,
+    limit: u16,
 ) -> Result<Option<AdditionalBuilder>, OutOfMemory>
-    requires { limit ≤ 65535 }
     ensures { let m = message.now.message in IfOk result (λ o. o ≡ built_fitting limit (truncated m m.questions [])) }
 {
     if limit < 12 {
@@ -219,13 +208,12 @@ fn asked(
 fn opened(
     alloc: Global,
     message: &AdditionalBuilder,
-    limit: usize,
+    limit: u16,
 ) -> Result<QuestionBuilder, OutOfMemory>
-    requires { limit ≤ 65535 }
     ensures { IfOk result (λ b. b ≡ record { message = truncated message.now.message [] []; limit = limit }) }
 {
     let mut shorter = bare(alloc, message)?;
-    shorter.set_push_limit(limit);
+    shorter.set_push_limit(limit as usize);
     Ok(shorter.question())
 }
 

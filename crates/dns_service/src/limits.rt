@@ -46,7 +46,7 @@ pub fn fit(
     ensures err { OnErr result (reply.new ≡ reply.old) }
 {
     match limit {
-        Some(limit) => cut(alloc, reply, limit as usize),
+        Some(limit) => cut(alloc, reply, limit),
         None => Ok(()),
     }
 }

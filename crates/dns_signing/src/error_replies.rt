@@ -33,6 +33,6 @@ pub(crate) fn error_within(
     ensures { IfOk result (λ b. b.message ≡ error_within size request.now rcode) }
 {
     let mut reply = error_response(alloc, request, rcode)?;
-    cut(alloc, &mut reply, usize::from(size))?;
+    cut(alloc, &mut reply, size)?;
     Ok(reply)
 }

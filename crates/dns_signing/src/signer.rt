@@ -158,7 +158,7 @@ impl Signer {
         ensures reply { OnOk result (reply.new.message ≡ signed self.old reply.old.message) }
         ensures behind { OnOk result (self.new ≡ behind_reply self.old (Some reply.old.message)) }
     {
-        cut(alloc, reply, usize::from(self.room))?;
+        cut(alloc, reply, self.room)?;
         self.sign_whole(alloc, reply)
     }
 
