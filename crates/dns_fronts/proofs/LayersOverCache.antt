@@ -1,6 +1,6 @@
 -- What a cache behind the layers does to how they take a request.
 use Rattle.std.proofs.Common.{◌≡◌, ◌∙◌, ◌≤◌, ℕ, Bool, true, cond, List, length, Option, Some, None, Result, Ok, Err, refl, ap, sym, subst}
-use Rattle.std.specs.Prelude.{OnOk, nat_le}
+use Rattle.std.specs.Prelude.{OnOk, is_some, nat_le}
 use Rattle.std.proofs.lemmas.Bool.{le-leb}
 use Rattle.dns_name.specs.declared.error.ParseError.{ParseError}
 use Rattle.dns_base.specs.Wire.{wire}
@@ -23,7 +23,7 @@ use Rattle.dns_proxy.specs.declared.front.Taken.TheVariants.{Own, Passed}
 use Rattle.dns_layers.specs.Rewritten.{rewritten}
 use Rattle.dns_fronts.specs.Caching.{cache_taken, cached_asks, cached_over, item_of, looked_up, taken_by, unless_young, young_item, young_or}
 use Rattle.dns_fronts.specs.Layered.{asked_message, layered}
-use Rattle.dns_fronts.specs.Passed.{taken_unless}
+use Rattle.dns_fronts.specs.Passed.{passed_to, passed_unless, taken_unless}
 
 none-asked : (x : Option Msg) (m : Option (List ℕ)) → m ≡ None → unless_young x m ≡ None
 none-asked None m h = h
@@ -48,6 +48,21 @@ passed-cached s c r rule message h = passed-by s r rule message (looked_up c r).
 
 pub passed-behind : (s : Settings) (c : Cached) (r : Req (Unit {0})) (rule : WrapPost) (message : List ℕ) → IsTaken wrap_by (λ i. layered s i r) (asked_message s r) (Passed rule message) → (looked_up c r).behind ≡ cache_taken s c r
 passed-behind s c r rule message h = sym (ap (λ (m : Option (List ℕ)). taken_by m c (looked_up c r).behind) h.0)
+
+-- by the message that can be sent for it
+pub on-passed : (s : Settings) (c : Cached) (r : Req (Unit {0})) (rule : WrapPost) (m : Option (List ℕ)) → IsTaken wrap_by (λ i. layered s i r) (asked_message s r) (passed_to rule m)
+    → IsTaken wrap_by (λ i. cached_over s c i r) (cached_asks s c r) (passed_unless rule m (looked_up c r).cached)
+on-passed s c r rule None h = own-cached s c r (Err InternalError) h
+on-passed s c r rule (Some message) h = passed-cached s c r rule message h
+
+pub behind-passed : (s : Settings) (c : Cached) (r : Req (Unit {0})) (rule : WrapPost) (m : Option (List ℕ)) → IsTaken wrap_by (λ i. layered s i r) (asked_message s r) (passed_to rule m)
+    → taken_by m c (looked_up c r).behind ≡ cache_taken s c r
+behind-passed s c r rule None h = own-behind s c r (Err InternalError) h
+behind-passed s c r rule (Some message) h = passed-behind s c r rule message h
+
+pub taken-some : (m : Option (List ℕ)) (c behind : Cached) → is_some m ≡ true → behind ≡ taken_by m c behind
+taken-some None c behind h = absurd (cc)
+taken-some (Some message) c behind h = refl
 
 -- at a later turn than 0 nothing is taken out of the cache
 later-none : (c : Cached) (r : Req (Unit {0})) (key : Option AskedKey) → cached_message c r 1 key ≡ None
@@ -78,6 +93,16 @@ young-taken rule message (Some m) young item e is =
     let same : Some item ≡ Some (item_of m) = sym is ∙ e in
     let one : item ≡ item_of m = cc in
     ap (λ (i : Item). let t : Taken WrapPost = Own (rewritten (wrap_by rule) i) in t) one
+
+-- where a message can be sent
+pub young-found : (rule : WrapPost) (m : Option (List ℕ)) (x : Option Msg) (young : Option Item) (item : Item) → is_some m ≡ true → young ≡ young_item x → young ≡ Some item → Own (rewritten (wrap_by rule) item) ≡ passed_unless rule m x
+young-found rule None x young item some e is = absurd (cc)
+young-found rule (Some message) x young item some e is = young-taken rule message x young item e is
+
+pub none-found : (rule : WrapPost) (m : Option (List ℕ)) (x : Option Msg) (young : Option Item) → young ≡ young_item x → young ≡ None → passed_to rule m ≡ passed_unless rule m x
+none-found rule None x young e is = refl
+none-found rule (Some message) None young e is = refl
+none-found rule (Some message) (Some m) young e is = let no : Some (item_of m) ≡ None = sym e ∙ is in absurd (cc)
 
 -- what holds anyway
 pub on-ok : {T E P : Type 0} (r : Result T E) → P → OnOk r P

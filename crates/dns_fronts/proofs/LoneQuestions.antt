@@ -1,5 +1,5 @@
 -- A request of one question and no records is sent as it is written.
-use Rattle.std.proofs.Common.{◌≡◌, ℕ, ◌≤◌, Bool, List, [], ◌∷◌, ◌++◌, length, Some, None, Ok, Err, ap, sym, ◌∙◌, arith, append-nil, length-append}
+use Rattle.std.proofs.Common.{◌≡◌, ℕ, ◌≤◌, Bool, false, List, [], ◌∷◌, ◌++◌, length, Option, Some, None, Result, Ok, Err, refl, ap, sym, ◌∙◌, arith, append-nil, length-append}
 use Rattle.std.specs.Prelude.{nat_eq, nat_le, if◌then◌else◌}
 use Rattle.std.specs.Cmp.{first_so, second_so}
 use Rattle.std.proofs.lemmas.Bool.{le-leb}
@@ -14,7 +14,10 @@ use Rattle.dns_base.specs.Header.{header_octets, header_of}
 use Rattle.dns_base.specs.Msg.{HasName}
 use Rattle.dns_base.specs.Sections.{Items, all_of, answers_of, authority_of, by_item, field, first_of, items_behind, items_from, questions_of, reached, standing_additional, standing_answers, standing_authority}
 use Rattle.dns_base.specs.Wire.{question_octets, wire}
-use Rattle.dns_opt.specs.OptRecords.{opt_in, opt_of}
+use Rattle.dns_opt.specs.OptRecords.{OptState, opt_in, opt_of}
+use Rattle.dns_name.specs.declared.error.ParseError.{ParseError}
+use Rattle.dns_service.specs.Asked.{asked_of, asked_opt, has_item}
+use Rattle.dns_service.specs.OptItems.{items_reached}
 use Rattle.dns_service.specs.Copied.{copied, copied_records, gathered, others_of, whole_list}
 use Rattle.dns_route.specs.RequestMessage.{request_with}
 use Rattle.dns_fronts.specs.Layered.{AsksAlone, lone_question, read_sent, sendable}
@@ -57,6 +60,23 @@ module _ (o : List ℕ) (q : Question) (end : ℕ) (asked : questions_of o ≡ (
 
   no_opt : opt_of o ≡ None
   no_opt = λ i. opt_in (reached (no_authority i).1 (additional_none i))
+
+-- a message that states no additional records
+none_behind : (o : List ℕ) (end : Result ℕ ParseError) → opt_in (reached end (items_behind (standing_at o) 0 end)) ≡ None
+none_behind o (Ok at) = refl
+none_behind o (Err e) = refl
+
+pub no_record : (o : List ℕ) → field 10 o ≡ 0 → opt_of o ≡ None
+no_record o h = ap (λ (n : ℕ). opt_in (reached (authority_of o).1 (items_behind (standing_at o) n (authority_of o).1))) h ∙ none_behind o (authority_of o).1
+
+no_items : (o : List ℕ) (end : Result ℕ ParseError) → items_reached (reached end (items_behind (standing_at o) 0 end)) ≡ []
+no_items o (Ok at) = refl
+no_items o (Err e) = refl
+
+pub no_item : (o : List ℕ) → field 10 o ≡ 0 → has_item (asked_of o).opt ≡ false
+no_item o h =
+    ap (λ (n : ℕ). has_item (asked_opt (items_reached (reached (authority_of o).1 (items_behind (standing_at o) n (authority_of o).1))))) h
+    ∙ ap (λ (items : List (Option OptState)). has_item (asked_opt items)) (no_items o (authority_of o).1)
 
 wire_alone : (h : Header) (q : Question) → wire (lone_question h q) ≡ header_octets h ++ (0 ∷ 1 ∷ 0 ∷ 0 ∷ 0 ∷ 0 ∷ 0 ∷ 0 ∷ question_octets q)
 unfolding wire

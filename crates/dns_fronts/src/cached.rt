@@ -1,14 +1,15 @@
 //! A cache behind the layers, before upstreams.
 
-ghost use Rattle.std.specs.Prelude.{◌≡◌, IfOk, OnOk, length};
+ghost use Rattle.std.specs.Prelude.{◌≡◌, IfOk, OnOk, is_some, length, true};
 ghost use Rattle.dns_layers.specs.Rewritten.{rewritten};
 ghost use Rattle.dns_middleware.specs.Wrapped.{hint_left};
-ghost use Rattle.dns_fronts.specs.Layered.{given};
-ghost use Rattle.dns_fronts.specs.Caching.{cache_given, cache_taken, cached_asks, cached_over, looked_up, young_item};
-ghost use Rattle.dns_fronts.specs.Passed.{taken_unless};
+ghost use Rattle.dns_fronts.specs.Layered.{given, sendable};
+ghost use Rattle.dns_fronts.specs.Caching.{cache_given, cache_taken, cached_asks, cached_over, looked_up, taken_by, young_item};
+ghost use Rattle.dns_fronts.specs.Passed.{passed_unless, taken_unless};
 ghost use Rattle.dns_fronts.specs.Required.{settings_for};
 
-use crate::layered::{LayeredFront, given_turn, own_of};
+use crate::layered::{Decided, LayeredFront, given_turn, item_in, pass};
+use crate::sendable::{can_send, sendable};
 use crate::single::{Answered, Unanswered};
 use dns_base::Message;
 use dns_cache::Cache;
@@ -16,7 +17,7 @@ use dns_layers::{Rewrite, rewrite_answer};
 use dns_middleware::WrapPost;
 use dns_proxy::{Front, Taken};
 use dns_route::{SendError, turn_item};
-use dns_service::{OutOfMemory, Polled, Request, ServiceResult};
+use dns_service::{OutOfMemory, Polled, Request, ServiceError, ServiceResult};
 use std::alloc::Global;
 
 /// The layers with a cache after them: what they pass on is answered out of the cache if that has a young reply for it. The
@@ -78,6 +79,49 @@ impl CachedFront {
             None => Ok(Taken::Passed(rule, message)),
         }
     }
+
+    /// How a request is taken that the layers pass on, and for which a message can be sent. The message is made if the cache has no
+    /// young reply.
+    fn unless_found(
+        &mut self,
+        alloc: Global,
+        request: &Request<()>,
+        rule: WrapPost,
+    ) -> Result<Taken<WrapPost>, OutOfMemory>
+        requires { is_some (sendable request.now.octets) ≡ true }
+        ensures taken { let cached = (looked_up self.old.cache request.now).cached in
+            IfOk result (λ t. t ≡ passed_unless rule (sendable request.now.octets) cached) }
+        ensures cache { let behind = (looked_up self.old.cache request.now).behind in
+            OnOk result (self.new ≡ record self.old { cache = taken_by (sendable request.now.octets) self.old.cache behind }) }
+    {
+        let found = self.young(alloc, request)?;
+        match found {
+            Some(young) => own_by(alloc, &rule, young),
+            None => pass(alloc, request, rule),
+        }
+    }
+
+    /// How a request is taken that the layers pass on. The cache is asked if a message can be sent for it.
+    fn passed(
+        &mut self,
+        alloc: Global,
+        request: &Request<()>,
+        rule: WrapPost,
+    ) -> Result<Taken<WrapPost>, OutOfMemory>
+        ensures taken { let cached = (looked_up self.old.cache request.now).cached in
+            IfOk result (λ t. t ≡ passed_unless rule (sendable request.now.octets) cached) }
+        ensures cache { let behind = (looked_up self.old.cache request.now).behind in
+            OnOk result (self.new ≡ record self.old { cache = taken_by (sendable request.now.octets) self.old.cache behind }) }
+    {
+        if can_send(request.message()) {
+            return self.unless_found(alloc, request, rule);
+        }
+        let sent = sendable(alloc, request)?;
+        match sent {
+            Some(message) => self.unless_young(alloc, request, rule, message),
+            None => Ok(Taken::Own(Err(ServiceError::InternalError))),
+        }
+    }
 }
 
 impl Front for CachedFront {
@@ -100,10 +144,10 @@ impl Front for CachedFront {
         alloc: Global,
         request: &mut Request<()>,
     ) -> Result<Taken<WrapPost>, OutOfMemory> {
-        let taken = self.front.take(alloc, request)?;
-        match taken {
-            Taken::Own(item) => Ok(Taken::Own(item)),
-            Taken::Passed(rule, message) => self.unless_young(alloc, request, rule, message),
+        let decided = self.front.decided(alloc, request)?;
+        match decided {
+            Decided::Own(item) => Ok(Taken::Own(item)),
+            Decided::Passed(rule) => self.passed(alloc, request, rule),
         }
     }
 
@@ -128,5 +172,5 @@ pub(crate) fn own_by<R: Rewrite, T>(
 {
     let mut answer = Polled::Ready(Some(item));
     rewrite_answer(rule, alloc, &mut answer)?;
-    Ok(own_of(answer))
+    Ok(Taken::Own(item_in(answer)))
 }
