@@ -1,7 +1,10 @@
 -- Kept replies as a request gets them.
-use Rattle.std.proofs.Common.{◌≡◌, ℕ, ◌+◌, ◌-◌, ◌<◌, Bool, true, false, ◌&&◌, List, [], ◌∷◌, ◌++◌, map, length, take, take_all, drop, Option, Some, None, Ok, refl, ap, ap₂, sym, subst, ◌∙◌, arith, length-drop, lt-ltb}
+use Rattle.std.proofs.Common.{◌≡◌, ℕ, ◌+◌, ◌-◌, ◌<◌, ◌≤◌, Bool, true, false, ◌&&◌, List, [], ◌∷◌, ◌++◌, map, length, take, take_all, drop, Option, Some, None, Ok, refl, ap, ap₂, sym, subst, ◌∙◌, arith, length-append, length-drop, lt-ltb}
 use Rattle.std.specs.Prelude.{is_ok, is_some, nat_lt, if◌then◌else◌, flat_map}
 use Rattle.std.specs.Map.{lookup}
+use Rattle.std.proofs.lemmas.Bool.{le-leb}
+use Rattle.dns_name.specs.Labels.{spell}
+use Rattle.dns_name.specs.Place.{two}
 use Rattle.dns_message.specs.declared.header.Header.{Header}
 use Rattle.dns_message.specs.declared.question.Question.{Question}
 use Rattle.dns_base.specs.Header.{IsHeader, header_octets, header_of}
@@ -76,6 +79,13 @@ module _ (o : List ℕ) (start : ℕ) (marks : List Mark) (k : IsKept o start ma
       let m = message_of o in
       ap (λ (m : Msg). is_ok (copied (wire m))) (aged_opt m opt request age)
       ∙ ap is_ok (k.copies request age opt l (opt_lawful (aged m request age) opt (aged_lawful m request age q k.lawful (asked_lawful m.header (header_of request) k.lawful.header h) n e)))
+
+  -- its records are few
+  pub short_kept : (opt : Option OptState) (q : Question) (request : List ℕ) (age : ℕ) → HasName q → (questions_of request).0 ≡ q ∷ [] → (length o - start) + opt_size opt ≤ 65264 → fits_frame (aged (and_opt (message_of o) opt) request age) ≡ true
+  short_kept opt q request age n e few =
+      let a = size_kept opt q request age e in
+      let b = length-append (spell q.qname) (two q.qtype ++ two q.qclass) in
+      le-leb (length (wire (aged (and_opt (message_of o) opt) request age))) 65535 (omega (arith, a, b, n.room, few))
 
 -- ---- whether a message is kept
 
