@@ -1,8 +1,9 @@
 -- Kept replies as a request gets them.
-use Rattle.std.proofs.Common.{◌≡◌, ℕ, ◌+◌, ◌-◌, ◌<◌, ◌≤◌, Bool, true, false, ◌&&◌, List, [], ◌∷◌, ◌++◌, map, length, take, take_all, drop, Option, Some, None, Ok, refl, ap, ap₂, sym, subst, ◌∙◌, arith, length-append, length-drop, lt-ltb}
+use Rattle.std.proofs.Common.{◌≡◌, ℕ, ◌+◌, ◌-◌, ◌<◌, ◌≤◌, Bool, true, false, ◌&&◌, List, [], ◌∷◌, ◌++◌, map, length, take, take_all, drop, Option, Some, None, Result, Ok, refl, ap, ap₂, sym, subst, ◌∙◌, arith, length-append, length-drop, lt-ltb}
 use Rattle.std.specs.Prelude.{is_ok, is_some, nat_lt, if◌then◌else◌, flat_map}
 use Rattle.std.specs.Map.{lookup}
-use Rattle.std.proofs.lemmas.Bool.{le-leb}
+use Rattle.std.proofs.lemmas.Bool.{le-leb, leb-true}
+use Rattle.dns_name.specs.declared.error.ParseError.{ParseError}
 use Rattle.dns_name.specs.Labels.{spell}
 use Rattle.dns_name.specs.Place.{two}
 use Rattle.dns_message.specs.declared.header.Header.{Header}
@@ -19,7 +20,7 @@ use Rattle.dns_service.specs.Req.{Req}
 use Rattle.dns_route.specs.ReplyMessage.{ReplyState, reply_message, reply_with_opt}
 use Rattle.dns_cache.specs.Aged.{aged, aged_record, asked_header}
 use Rattle.dns_cache.specs.AskedCache.{Cached, KeptReply, bare_octets, with_used, comes_back, fits_frame, is_whole, may_keep, where_kept}
-use Rattle.dns_cache.specs.Steps.{used_where}
+use Rattle.dns_cache.specs.Steps.{ComposesShort, used_where}
 use Rattle.dns_cache.specs.Keys.{AskedKey, same_key}
 use Rattle.dns_cache.specs.Marks.{IsKept, IsListed, MarksFit, aged_octets, mark_of, opt_size}
 use Rattle.dns_cache.specs.Ttls.{least_ttl, records_of}
@@ -127,10 +128,17 @@ never_keep m n e z = none (is_whole m) (least_ttl m) (sym e ∙ z)
 
 -- ---- the entry that is used
 
-pub used_some : (r : Option ReplyState) (key : AskedKey) (c : Cached) → is_some r ≡ true → used_where r key c ≡ with_used key c (lookup (same_key key) c.entries)
+-- what a reply is composed of
+pub composes_short : (r : Result Msg ParseError) (m : Msg) → r ≡ Ok m → fits_frame m ≡ true → ComposesShort r
+composes_short r m e h = subst ComposesShort (sym e) (leb-true (length (wire m)) 65535 h)
+
+pub same_message : (b m : Msg) (r : Result Msg ParseError) → r ≡ Ok b → r ≡ Ok m → b ≡ m
+same_message b m r e f = let same : Ok b ≡ Ok m = sym e ∙ f in cc
+
+pub used_some : {A : Type 0} (r : Option A) (key : AskedKey) (c : Cached) → is_some r ≡ true → used_where r key c ≡ with_used key c (lookup (same_key key) c.entries)
 used_some (Some r) key c h = refl
 used_some None key c h = cc
 
-pub used_none : (r : Option ReplyState) (key : AskedKey) (c : Cached) → is_some r ≡ false → used_where r key c ≡ c
+pub used_none : {A : Type 0} (r : Option A) (key : AskedKey) (c : Cached) → is_some r ≡ false → used_where r key c ≡ c
 used_none (Some r) key c h = cc
 used_none None key c h = refl
