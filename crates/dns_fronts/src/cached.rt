@@ -10,14 +10,14 @@ ghost use Rattle.dns_fronts.specs.Required.{settings_for};
 
 use crate::layered::{Decided, LayeredFront, given_turn, item_in, pass};
 use crate::sendable::{can_send, sendable};
-use crate::single::{Answered, Unanswered};
+use crate::single::Answered;
 use dns_base::Message;
 use dns_cache::Cache;
 use dns_layers::{Rewrite, rewrite_answer};
 use dns_middleware::WrapPost;
 use dns_proxy::{Front, Taken};
-use dns_route::{SendError, turn_item};
-use dns_service::{OutOfMemory, Polled, Request, ServiceError, ServiceResult};
+use dns_route::SendError;
+use dns_service::{CallResult, OutOfMemory, Polled, Request, ServiceError, ServiceResult};
 use std::alloc::Global;
 
 /// The layers with a cache after them: what they pass on is answered out of the cache if that has a young reply for it. The
@@ -52,13 +52,10 @@ impl CachedFront {
         ensures item { IfOk result (λ i. i ≡ young_item (looked_up self.old.cache request.now).cached) }
         ensures cache { OnOk result (self.new ≡ record self.old { cache = (looked_up self.old.cache request.now).behind }) }
     {
-        let turned = self.cache.ask(alloc, &Unanswered {}, request, 0)?;
-        match turned {
-            Polled::Pending => Ok(None),
-            Polled::Ready(reply) => {
-                let item = turn_item(alloc, reply)?;
-                Ok(Some(item))
-            }
+        let found = self.cache.young(alloc, request)?;
+        match found {
+            Some(built) => Ok(Some(Ok(CallResult::new(built)))),
+            None => Ok(None),
         }
     }
 
