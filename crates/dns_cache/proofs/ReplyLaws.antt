@@ -17,7 +17,7 @@ use Rattle.dns_opt.specs.OptRecords.{OptState}
 use Rattle.dns_service.specs.Copied.{copied}
 use Rattle.dns_service.specs.LastOpt.{and_opt}
 use Rattle.dns_service.specs.Req.{Req}
-use Rattle.dns_route.specs.ReplyMessage.{ReplyState, reply_message, reply_with_opt}
+use Rattle.dns_route.specs.ReplyMessage.{reply_message, reply_with_opt}
 use Rattle.dns_cache.specs.Aged.{aged, aged_record, asked_header}
 use Rattle.dns_cache.specs.AskedCache.{Cached, KeptReply, bare_octets, with_used, comes_back, fits_frame, is_whole, may_keep, where_kept}
 use Rattle.dns_cache.specs.Steps.{ComposesShort, used_where}

@@ -80,25 +80,24 @@ impl CachedReply {
         }
     }
 
-    /// The message as a request gets it, built, if the reply is young.
+    /// The message as a request of one question gets it, built, if the reply is young.
     pub(crate) fn aged_message(
         &self,
         alloc: Global,
         request: &Request<()>,
+        question: &QuestionRef<'_>,
     ) -> Result<Option<AdditionalBuilder>, OutOfMemory>
-        requires { AsksOnce request.now.octets }
+        requires { (questions_of request.now.octets).0 ≡ question.now ∷ [] }
         ensures { IfOk result (λ b. GivesBuilt (young_message request.now self.now) b) }
     {
         let Some(age) = self.age(request.received_secs()) else {
             return Ok(None);
         };
-        match request.message().first_question() {
-            Some(question) if self.fits(&question) => {
-                let built = self.message_for(alloc, request.message(), &question, age)?;
-                Ok(Some(built))
-            }
-            _ => Ok(None),
+        if !self.fits(question) {
+            return Ok(None);
         }
+        let built = self.message_for(alloc, request.message(), question, age)?;
+        Ok(Some(built))
     }
 
     /// The message that answers the one question of a request, built, with its TTLs lowered by an age, if that fits.

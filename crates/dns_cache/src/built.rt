@@ -88,7 +88,8 @@ fn push_aged<S: RecordStage>(
 ) -> Result<(), PushError>
     requires marked { AreMarkedRecords records.marks.now records.octets.now }
     requires short { KeepsLimit builder.old }
-    ensures { Becomes builder.new (with_records S.section builder.old (aged_records age records.entry.marks.now records.entry.octets.now)) result }
+    ensures { let added = aged_records age records.entry.marks.now records.entry.octets.now in
+        Becomes builder.new (with_records S.section builder.old added) result }
 {
     let mut left = records.octets;
     'marks: for mark in records.marks {

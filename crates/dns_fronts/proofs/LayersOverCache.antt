@@ -1,5 +1,5 @@
 -- What a cache behind the layers does to how they take a request.
-use Rattle.std.proofs.Common.{◌≡◌, ◌∙◌, ℕ, Bool, true, List, Option, Some, None, Result, Ok, Err, refl, ap, sym, subst}
+use Rattle.std.proofs.Common.{◌≡◌, ◌∙◌, ℕ, true, List, Option, Some, None, Result, Ok, Err, refl, ap, sym, subst}
 use Rattle.std.specs.Prelude.{OnOk, is_some}
 use Rattle.dns_base.specs.Msg.{Msg}
 use Rattle.dns_events.specs.declared.settings.Settings.{Settings}
@@ -11,7 +11,7 @@ use Rattle.dns_route.specs.Turns.{TurnAnswer}
 use Rattle.dns_base.specs.Built.{Built}
 use Rattle.dns_service.specs.declared.service.CallResult.{CallResult}
 use Rattle.dns_cache.specs.Steps.{GivesBuilt}
-use Rattle.dns_cache.specs.AskedCache.{AnswersCached, Cached, asked_cache, cached_message}
+use Rattle.dns_cache.specs.AskedCache.{AnswersCached, Cached, asked_cache, behind_call, cached_message}
 use Rattle.dns_cache.specs.Keys.{AskedKey, key_of}
 use Rattle.dns_middleware.specs.declared.wrap_post.WrapPost.{WrapPost}
 use Rattle.dns_middleware.specs.WrappedStreams.{wrap_by}
@@ -102,6 +102,20 @@ pub none-found : (rule : WrapPost) (m : Option (List ℕ)) (x : Option Msg) (you
 none-found rule None x young e is = refl
 none-found rule (Some message) None young e is = refl
 none-found rule (Some message) (Some m) young e is = let no : Some (item_of m) ≡ None = sym e ∙ is in absurd (cc)
+
+-- where there is no young reply the cache stays
+none-young : (x : Option Msg) → young_item x ≡ None → x ≡ None
+none-young None h = refl
+none-young (Some m) h = let no : Some (item_of m) ≡ None = h in absurd (cc)
+
+left-there : (c : Cached) (r : Req (Unit {0})) (key : Option AskedKey) → behind_call c r Pending key None ≡ c
+left-there c r None = refl
+left-there c r (Some key) = refl
+
+pub none-behind : (c : Cached) (r : Req (Unit {0})) (m : Option (List ℕ)) (young : Option Item) → young ≡ young_item (looked_up c r).cached → young ≡ None → (looked_up c r).behind ≡ taken_by m c (looked_up c r).behind
+none-behind c r None young e is =
+    ap (behind_call c r Pending (key_of r.octets)) (none-young (looked_up c r).cached (sym e ∙ is)) ∙ left-there c r (key_of r.octets)
+none-behind c r (Some message) young e is = refl
 
 -- what holds anyway
 pub on-ok : {T E P : Type 0} (r : Result T E) → P → OnOk r P

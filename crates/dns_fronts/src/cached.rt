@@ -1,15 +1,17 @@
 //! A cache behind the layers, before upstreams.
 
 ghost use Rattle.std.specs.Prelude.{◌≡◌, IfOk, OnOk, is_some, length, true};
+ghost use Rattle.dns_base.specs.Sections.{counts_of};
+ghost use Rattle.dns_cache.specs.Keys.{AsksByName};
 ghost use Rattle.dns_layers.specs.Rewritten.{rewritten};
 ghost use Rattle.dns_middleware.specs.Wrapped.{hint_left};
-ghost use Rattle.dns_fronts.specs.Layered.{given, sendable};
+ghost use Rattle.dns_fronts.specs.Layered.{asks_alone, given, sendable};
 ghost use Rattle.dns_fronts.specs.Caching.{cache_given, cache_taken, cached_asks, cached_over, looked_up, taken_by, young_item};
 ghost use Rattle.dns_fronts.specs.Passed.{passed_unless, taken_unless};
 ghost use Rattle.dns_fronts.specs.Required.{settings_for};
 
 use crate::layered::{Decided, LayeredFront, given_turn, item_in, pass};
-use crate::sendable::{can_send, sendable};
+use crate::sendable::{asks_alone, sendable};
 use crate::single::Answered;
 use dns_base::Message;
 use dns_cache::Cache;
@@ -50,6 +52,7 @@ impl CachedFront {
         request: &Request<()>,
     ) -> Result<Option<ServiceResult>, OutOfMemory>
         ensures item { IfOk result (λ i. i ≡ young_item (looked_up self.old.cache request.now).cached) }
+        ensures asked { IfOk result (λ i. is_some i ≡ true → AsksByName request.now.octets) }
         ensures cache { OnOk result (self.new ≡ record self.old { cache = (looked_up self.old.cache request.now).behind }) }
     {
         let found = self.cache.young(alloc, request)?;
@@ -77,15 +80,15 @@ impl CachedFront {
         }
     }
 
-    /// How a request is taken that the layers pass on, and for which a message can be sent. The message is made if the cache has no
-    /// young reply.
+    /// How a request of one question and no records is taken that the layers pass on. A message is made for it if the cache has no
+    /// young reply, since one can be sent if the cache has.
     fn unless_found(
         &mut self,
         alloc: Global,
         request: &Request<()>,
         rule: WrapPost,
     ) -> Result<Taken<WrapPost>, OutOfMemory>
-        requires { is_some (sendable request.now.octets) ≡ true }
+        requires { asks_alone (counts_of request.now.octets) ≡ true }
         ensures taken { let cached = (looked_up self.old.cache request.now).cached in
             IfOk result (λ t. t ≡ passed_unless rule (sendable request.now.octets) cached) }
         ensures cache { let behind = (looked_up self.old.cache request.now).behind in
@@ -110,7 +113,7 @@ impl CachedFront {
         ensures cache { let behind = (looked_up self.old.cache request.now).behind in
             OnOk result (self.new ≡ record self.old { cache = taken_by (sendable request.now.octets) self.old.cache behind }) }
     {
-        if can_send(request.message()) {
+        if asks_alone(request.message().header_counts()) {
             return self.unless_found(alloc, request, rule);
         }
         let sent = sendable(alloc, request)?;

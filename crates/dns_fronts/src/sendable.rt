@@ -1,6 +1,6 @@
 //! The message that an upstream is asked for a request.
 
-ghost use Rattle.std.specs.Prelude.{◌≡◌, ◌≤◌, ◌++◌, ◌∷◌, [], length, IfOk, IfSome, OnOk, is_some, true};
+ghost use Rattle.std.specs.Prelude.{◌≡◌, ◌≤◌, ◌++◌, ◌∷◌, [], length, IfOk, IfSome, OnOk};
 ghost use Rattle.dns_base.specs.Header.{header_octets};
 ghost use Rattle.dns_base.specs.Msg.{HasName};
 ghost use Rattle.dns_base.specs.Wire.{question_octets, wire};
@@ -27,21 +27,8 @@ pub(crate) fn sendable(alloc: Global, request: &Request<()>) -> Result<Option<Me
     }
 }
 
-/// Whether a message can be sent for a request, by its one question alone. If it has records, that isn't known.
-pub(crate) fn can_send(request: &Message) -> bool
-    ensures { result ≡ true → is_some (sendable request.now) ≡ true }
-{
-    match only_question(request) {
-        Some(question) => {
-            let _labels = question.qname().labels();
-            true
-        }
-        None => false,
-    }
-}
-
 /// Whether a header states one question and no records.
-fn asks_alone(counts: HeaderCounts) -> bool
+pub(crate) fn asks_alone(counts: HeaderCounts) -> bool
     ensures { result ≡ asks_alone counts }
 {
     counts.qdcount == 1 && counts.ancount == 0 && counts.nscount == 0 && counts.arcount == 0

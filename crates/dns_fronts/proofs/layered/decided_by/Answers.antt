@@ -1,7 +1,6 @@
 -- The layers take a request by what they decide.
-use Rattle.std.proofs.Common.{◌≡◌, ◌∙◌, Ok, ap, subst, sym}
+use Rattle.std.proofs.Common.{◌≡◌, Ok, subst, sym}
 use Rattle.std.proofs.lemmas.Result.{IfOk-weaker}
-use Rattle.dns_service.specs.Req.{Req}
 use Rattle.dns_layers.specs.declared.no_secondaries.NoSecondaries.{NoSecondaries}
 use Rattle.dns_middleware.specs.Wrapped.{gate}
 use Rattle.dns_middleware.specs.WrappedStreams.{wrap_by}

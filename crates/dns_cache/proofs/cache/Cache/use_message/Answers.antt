@@ -4,13 +4,13 @@ use Rattle.lru.specs.LruCache.{lru_cache, promoted}
 use Rattle.dns_cache.specs.AskedCache.{Cached}
 use Rattle.dns_cache.specs.Keys.{same_key}
 use Rattle.dns_cache.proofs.EntryLaws.{promoted_is_used}
-use Rattle.dns_cache.proofs.KeyLaws.{key_asks_once}
+use Rattle.dns_cache.proofs.KeyLaws.{asks_this, key_asks_once}
 use Rattle.dns_cache.proofs.ReplyLaws.{used_none, used_some}
 use Rattle.dns_cache.proofs.cache.Cache.use_message.Goals.{then-is_some, else-is_some}
 use Rattle.dns_cache.proofs.cache.Cache.use_message.Goals as goal
 
 pub aged_message-requires : goal.aged_message-requires
-aged_message-requires c = key_asks_once c.args.request.now.octets c.args.key.now c.requires
+aged_message-requires c = asks_this c.args.request.now.octets c.args.question.now (key_asks_once c.args.request.now.octets c.args.key.now c.requires.key) c.requires.asked
 
 pub returns-clause-used : goal.returns-clause-used
 returns-clause-used c =

@@ -1,5 +1,5 @@
 -- The layers decide, and the cache answers a request that they pass on if it has a young reply.
-use Rattle.std.proofs.Common.{◌≡◌, ◌∙◌, ap, subst, sym}
+use Rattle.std.proofs.Common.{◌∙◌, ap, subst, sym}
 use Rattle.std.proofs.lemmas.Result.{IfOk-weaker}
 use Rattle.dns_service.specs.Req.{Req}
 use Rattle.dns_middleware.specs.declared.wrap_post.WrapPost.{WrapPost}
@@ -10,7 +10,6 @@ use Rattle.dns_fronts.specs.Caching.{cached_asks, cached_over, looked_up, taken_
 use Rattle.dns_fronts.specs.Layered.{sendable}
 use Rattle.dns_fronts.specs.Passed.{IsDecided, passed_unless}
 use Rattle.dns_fronts.specs.Required.{settings_for}
-use Rattle.dns_fronts.specs.declared.cached.CachedFront.{CachedFront}
 use Rattle.dns_fronts.proofs.LayersOverCache.{behind-passed, on-ok, on-passed, own-behind, own-cached}
 use Rattle.dns_fronts.proofs.cached.CachedFrontFront.take.Goals as goal
 

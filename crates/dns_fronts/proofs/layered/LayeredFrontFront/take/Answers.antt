@@ -1,5 +1,5 @@
 -- What the layers decide, and what is asked for a request that they pass on.
-use Rattle.std.proofs.Common.{◌≡◌, ◌∙◌, ap, subst, sym}
+use Rattle.std.proofs.Common.{◌∙◌, ap, subst, sym}
 use Rattle.std.proofs.lemmas.Result.{IfOk-weaker}
 use Rattle.dns_service.specs.Req.{Req}
 use Rattle.dns_middleware.specs.declared.wrap_post.WrapPost.{WrapPost}
