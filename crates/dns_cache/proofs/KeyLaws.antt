@@ -47,6 +47,13 @@ asked_by o false key t h = cc
 pub key_asks_once : (o : List ℕ) (key : AskedKey) → key_of o ≡ Some key → AsksOnce o
 key_asks_once o key h = asked_by o (asks_once o && not (names_subnet (opt_of o))) key refl h
 
+-- and that is the first one
+pub asks_this : (o : List ℕ) (q : Question) → AsksOnce o → first_of (questions_of o).0 ≡ Some q → (questions_of o).0 ≡ q ∷ []
+asks_this o q once h =
+    let same : Some once.0 ≡ Some q = sym (ap first_of once.1) ∙ h in
+    let is : once.0 ≡ q = cc in
+    once.1 ∙ ap (λ (x : Question). x ∷ []) is
+
 -- ---- names in lower case
 
 -- no length is a letter

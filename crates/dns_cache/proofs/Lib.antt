@@ -6,5 +6,6 @@ pub mod AgedLaws
 pub mod KeptLaws
 pub mod ReplyLaws
 mod BuiltLaws
+mod BareRequests
 pub mod EntryLaws
 pub mod CallLaws

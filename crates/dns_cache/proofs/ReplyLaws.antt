@@ -1,7 +1,11 @@
 -- Kept replies as a request gets them.
-use Rattle.std.proofs.Common.{◌≡◌, ℕ, ◌+◌, ◌-◌, ◌<◌, Bool, true, false, ◌&&◌, List, [], ◌∷◌, ◌++◌, map, length, take, take_all, drop, Option, Some, None, Ok, refl, ap, ap₂, sym, subst, ◌∙◌, arith, length-drop, lt-ltb}
+use Rattle.std.proofs.Common.{◌≡◌, ℕ, ◌+◌, ◌-◌, ◌<◌, ◌≤◌, Bool, true, false, ◌&&◌, List, [], ◌∷◌, ◌++◌, map, length, take, take_all, drop, Option, Some, None, Result, Ok, refl, ap, ap₂, sym, subst, ◌∙◌, arith, length-append, length-drop, lt-ltb}
 use Rattle.std.specs.Prelude.{is_ok, is_some, nat_lt, if◌then◌else◌, flat_map}
 use Rattle.std.specs.Map.{lookup}
+use Rattle.std.proofs.lemmas.Bool.{le-leb, leb-true}
+use Rattle.dns_name.specs.declared.error.ParseError.{ParseError}
+use Rattle.dns_name.specs.Labels.{spell}
+use Rattle.dns_name.specs.Place.{two}
 use Rattle.dns_message.specs.declared.header.Header.{Header}
 use Rattle.dns_message.specs.declared.question.Question.{Question}
 use Rattle.dns_base.specs.Header.{IsHeader, header_octets, header_of}
@@ -13,10 +17,10 @@ use Rattle.dns_opt.specs.OptRecords.{OptState}
 use Rattle.dns_service.specs.Copied.{copied}
 use Rattle.dns_service.specs.LastOpt.{and_opt}
 use Rattle.dns_service.specs.Req.{Req}
-use Rattle.dns_route.specs.ReplyMessage.{ReplyState, reply_message, reply_with_opt}
+use Rattle.dns_route.specs.ReplyMessage.{reply_message, reply_with_opt}
 use Rattle.dns_cache.specs.Aged.{aged, aged_record, asked_header}
 use Rattle.dns_cache.specs.AskedCache.{Cached, KeptReply, bare_octets, with_used, comes_back, fits_frame, is_whole, may_keep, where_kept}
-use Rattle.dns_cache.specs.Steps.{used_where}
+use Rattle.dns_cache.specs.Steps.{ComposesShort, used_where}
 use Rattle.dns_cache.specs.Keys.{AskedKey, same_key}
 use Rattle.dns_cache.specs.Marks.{IsKept, IsListed, MarksFit, aged_octets, mark_of, opt_size}
 use Rattle.dns_cache.specs.Ttls.{least_ttl, records_of}
@@ -77,6 +81,13 @@ module _ (o : List ℕ) (start : ℕ) (marks : List Mark) (k : IsKept o start ma
       ap (λ (m : Msg). is_ok (copied (wire m))) (aged_opt m opt request age)
       ∙ ap is_ok (k.copies request age opt l (opt_lawful (aged m request age) opt (aged_lawful m request age q k.lawful (asked_lawful m.header (header_of request) k.lawful.header h) n e)))
 
+  -- its records are few
+  pub short_kept : (opt : Option OptState) (q : Question) (request : List ℕ) (age : ℕ) → HasName q → (questions_of request).0 ≡ q ∷ [] → (length o - start) + opt_size opt ≤ 65264 → fits_frame (aged (and_opt (message_of o) opt) request age) ≡ true
+  short_kept opt q request age n e few =
+      let a = size_kept opt q request age e in
+      let b = length-append (spell q.qname) (two q.qtype ++ two q.qclass) in
+      le-leb (length (wire (aged (and_opt (message_of o) opt) request age))) 65535 (omega (arith, a, b, n.room, few))
+
 -- ---- whether a message is kept
 
 kept_by : (r : Req (Unit {0})) (e : KeptReply) (a b c : Bool) → a ≡ true → c ≡ true → e.secs ≡ r.received_secs → (if b then Some e else None) ≡ (if a && (b && c) then Some (record { secs = r.received_secs; message = e.message }) else None)
@@ -117,10 +128,17 @@ never_keep m n e z = none (is_whole m) (least_ttl m) (sym e ∙ z)
 
 -- ---- the entry that is used
 
-pub used_some : (r : Option ReplyState) (key : AskedKey) (c : Cached) → is_some r ≡ true → used_where r key c ≡ with_used key c (lookup (same_key key) c.entries)
+-- what a reply is composed of
+pub composes_short : (r : Result Msg ParseError) (m : Msg) → r ≡ Ok m → fits_frame m ≡ true → ComposesShort r
+composes_short r m e h = subst ComposesShort (sym e) (leb-true (length (wire m)) 65535 h)
+
+pub same_message : (b m : Msg) (r : Result Msg ParseError) → r ≡ Ok b → r ≡ Ok m → b ≡ m
+same_message b m r e f = let same : Ok b ≡ Ok m = sym e ∙ f in cc
+
+pub used_some : {A : Type 0} (r : Option A) (key : AskedKey) (c : Cached) → is_some r ≡ true → used_where r key c ≡ with_used key c (lookup (same_key key) c.entries)
 used_some (Some r) key c h = refl
 used_some None key c h = cc
 
-pub used_none : (r : Option ReplyState) (key : AskedKey) (c : Cached) → is_some r ≡ false → used_where r key c ≡ c
+pub used_none : {A : Type 0} (r : Option A) (key : AskedKey) (c : Cached) → is_some r ≡ false → used_where r key c ≡ c
 used_none (Some r) key c h = cc
 used_none None key c h = refl

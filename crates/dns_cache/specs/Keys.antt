@@ -11,6 +11,7 @@ use Rattle.std.specs.List.{list_any}
 use Rattle.dns_name.specs.Labels.{folded, spell}
 use Rattle.dns_message.specs.declared.question.Question.{Question}
 use Rattle.dns_base.specs.Header.{header_of}
+use Rattle.dns_base.specs.Msg.{HasName}
 use Rattle.dns_base.specs.Options.{options}
 use Rattle.dns_base.specs.Sections.{field, first_of, questions_of}
 use Rattle.dns_opt.specs.OptRecords.{OptState, is_do, opt_of}
@@ -85,6 +86,10 @@ question_key ok q = record { name = folded q.qname; qtype = q.qtype; qclass = q.
 -- the one question of octets, which is readable
 abbrev pub AsksOnce : List ℕ → Type 0
 AsksOnce o = (q : Question) × ((questions_of o).0 ≡ q ∷ [])
+
+-- octets whose first question is readable, so that its name is one
+abbrev pub AsksByName : List ℕ → Type 0
+AsksByName o = (q : Question) × (first_of (questions_of o).0 ≡ Some q) × HasName q
 
 -- the key of octets that are a request; none if its question is unreadable
 abbrev pub key_of : List ℕ → Option AskedKey

@@ -1,6 +1,6 @@
 //! Replies out of the cache.
 
-ghost use Rattle.std.specs.Prelude.{◌≡◌, ◌≤◌, ◌+◌, ◌++◌, ◌∷◌, [], drop, length, take, IfOk, IsTrue, OnErr, OnOk};
+ghost use Rattle.std.specs.Prelude.{◌≡◌, ◌≤◌, ◌+◌, ◌++◌, ◌∷◌, [], drop, length, take, IfOk, IsTrue, Ok, OnErr, OnOk};
 ghost use Rattle.dns_name.specs.Place.{four};
 ghost use Rattle.dns_base.specs.Header.{IsHeader, header_octets, header_of};
 ghost use Rattle.dns_base.specs.Msg.{HasName, IsMessage};
@@ -9,16 +9,16 @@ ghost use Rattle.dns_base.specs.Wire.{question_octets, wire};
 ghost use Rattle.dns_route.specs.ReplyMessage.{reply_message};
 ghost use Rattle.dns_cache.specs.Aged.{aged, asked_header};
 ghost use Rattle.dns_cache.specs.AskedCache.{bare_octets, fits_frame, young_message};
-ghost use Rattle.dns_cache.specs.Steps.{GivesMessage, age_of};
+ghost use Rattle.dns_cache.specs.Steps.{ComposesShort, GivesBuilt, GivesMessage, age_of};
 ghost use Rattle.dns_cache.specs.Keys.{AsksOnce};
 ghost use Rattle.dns_cache.specs.Marks.{IsKept, MarksFit, aged_octets, aged_ttl};
 
-use crate::built::built_reply;
+use crate::built::{built_message, built_reply};
 use crate::cached_reply::{CachedReply, own_opt};
 use crate::marks::Mark;
-use dns_base::{ComposeQuestion, Header, Message, QuestionRef};
+use dns_base::{AdditionalBuilder, ComposeQuestion, Header, Message, QuestionRef};
 use dns_route::ReplyMessage;
-use dns_service::{OutOfMemory, Request};
+use dns_service::{OutOfMemory, ReplyError, Request};
 use std::alloc::Global;
 
 impl CachedReply {
@@ -80,6 +80,55 @@ impl CachedReply {
         }
     }
 
+    /// The message as a request of one question gets it, built, if the reply is young.
+    pub(crate) fn aged_message(
+        &self,
+        alloc: Global,
+        request: &Request<()>,
+        question: &QuestionRef<'_>,
+    ) -> Result<Option<AdditionalBuilder>, OutOfMemory>
+        requires { (questions_of request.now.octets).0 ≡ question.now ∷ [] }
+        ensures { IfOk result (λ b. GivesBuilt (young_message request.now self.now) b) }
+    {
+        let Some(age) = self.age(request.received_secs()) else {
+            return Ok(None);
+        };
+        if !self.fits(question) {
+            return Ok(None);
+        }
+        let built = self.message_for(alloc, request.message(), question, age)?;
+        Ok(Some(built))
+    }
+
+    /// The message that answers the one question of a request, built, with its TTLs lowered by an age, if that fits.
+    fn message_for(
+        &self,
+        alloc: Global,
+        request: &Message,
+        question: &QuestionRef<'_>,
+        age: u32,
+    ) -> Result<AdditionalBuilder, OutOfMemory>
+        requires asked { (questions_of request.now).0 ≡ question.now ∷ [] }
+        requires fits { IsTrue (fits_frame (aged self.now.message request.now age)) }
+        ensures { IfOk result (λ b. b.message ≡ aged self.now.message request.now age) }
+    {
+        match &self.opt {
+            Some(_) => {
+                let reply = self.reply_with_opt(alloc, request, question, age)?;
+                composed(alloc, reply)
+            }
+            None => built_message(
+                alloc,
+                &self.message,
+                self.start,
+                self.marks.as_slice(),
+                request,
+                question,
+                age,
+            ),
+        }
+    }
+
     /// The reply as octets, and its OPT record beside them.
     fn reply_with_opt(
         &self,
@@ -103,6 +152,18 @@ impl CachedReply {
         )?;
         let opt = own_opt(alloc, self.opt.as_ref())?;
         Ok(ReplyMessage::of(Message::of(octets), opt))
+    }
+}
+
+/// The message that a reply is composed of, which fits.
+fn composed(alloc: Global, reply: ReplyMessage) -> Result<AdditionalBuilder, OutOfMemory>
+    requires { ComposesShort (reply_message reply) }
+    ensures { IfOk result (λ b. reply_message reply ≡ Ok b.message) }
+{
+    match reply.into_builder(alloc) {
+        Ok(built) => Ok(built),
+        Err(ReplyError::Service(_)) => unreachable!(),
+        Err(ReplyError::OutOfMemory) => Err(OutOfMemory),
     }
 }
 

@@ -88,7 +88,8 @@ fn push_aged<S: RecordStage>(
 ) -> Result<(), PushError>
     requires marked { AreMarkedRecords records.marks.now records.octets.now }
     requires short { KeepsLimit builder.old }
-    ensures { Becomes builder.new (with_records S.section builder.old (aged_records age records.entry.marks.now records.entry.octets.now)) result }
+    ensures { let added = aged_records age records.entry.marks.now records.entry.octets.now in
+        Becomes builder.new (with_records S.section builder.old added) result }
 {
     let mut left = records.octets;
     'marks: for mark in records.marks {
@@ -197,6 +198,28 @@ fn aged_built(
     message_built(alloc, header, question, sections, age)
 }
 
+/// A message that is kept without its OPT record, built as a request of one question gets it at an age, if that fits.
+pub(crate) fn built_message(
+    alloc: Global,
+    message: &Message,
+    start: usize,
+    marks: &[Mark],
+    request: &Message,
+    question: &QuestionRef<'_>,
+    age: u32,
+) -> Result<AdditionalBuilder, OutOfMemory>
+    requires kept { IsKept message.now start marks.now }
+    requires asked { (questions_of request.now).0 ≡ question.now ∷ [] }
+    requires fits { length (wire (aged (message_of message.now) request.now age)) ≤ 65535 }
+    ensures { IfOk result (λ b. b ≡ unlimited (aged (message_of message.now) request.now age)) }
+{
+    match aged_built(alloc, message, start, marks, request, question, age) {
+        Ok(built) => Ok(built),
+        Err(PushError::OutOfMemory) => Err(OutOfMemory),
+        Err(PushError::ShortBuf) => unreachable!(),
+    }
+}
+
 /// The reply of a message that is kept without its OPT record, as a request of one question gets it at an age.
 pub(crate) fn built_reply(
     alloc: Global,
@@ -213,12 +236,7 @@ pub(crate) fn built_reply(
     ensures message { IfOk result (λ r. reply_message r ≡ Ok (aged (message_of message.now) request.now age)) }
     ensures octets { IfOk result (λ r. r.octets ≡ bare_octets (aged (message_of message.now) request.now age)) }
 {
-    match aged_built(alloc, message, start, marks, request, question, age) {
-        Ok(built) => {
-            let _octets = built.as_slice();
-            ReplyMessage::from_typed(alloc, built)
-        }
-        Err(PushError::OutOfMemory) => Err(OutOfMemory),
-        Err(PushError::ShortBuf) => unreachable!(),
-    }
+    let built = built_message(alloc, message, start, marks, request, question, age)?;
+    let _octets = built.as_slice();
+    ReplyMessage::from_typed(alloc, built)
 }

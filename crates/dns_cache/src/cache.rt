@@ -1,15 +1,18 @@
 //! A bounded cache in front of a single service.
 
-ghost use Rattle.std.specs.Prelude.{◌≡◌, [], length, IfOk, Ok, OnOk, OnErr, Some, option_and_then};
+ghost use Rattle.std.specs.Prelude.{◌≡◌, [], length, IfOk, Ok, OnOk, OnErr, Some, is_some, option_and_then, true};
 ghost use Rattle.std.specs.Map.{lookup};
 ghost use Rattle.std.specs.NonZero.{non_zero_usize_get};
+ghost use Rattle.dns_base.specs.Sections.{first_of, questions_of};
+ghost use Rattle.dns_service.specs.declared.service.Polled.TheVariants.{Pending};
 ghost use Rattle.lru.specs.LruCache.{lru_cache};
 ghost use Rattle.dns_cache.specs.AskedCache.{AnswersCached, asked_cache, cached_message, empty_cache, has_entry, kept_answer, with_kept, without_entry, young_message};
-ghost use Rattle.dns_cache.specs.Steps.{GivesMessage, used_where};
-ghost use Rattle.dns_cache.specs.Keys.{AsksOnce, key_of, same_key};
+ghost use Rattle.dns_cache.specs.Steps.{GivesBuilt, GivesMessage, used_where};
+ghost use Rattle.dns_cache.specs.Keys.{AsksByName, AsksOnce, key_of, same_key};
 
 use crate::cached_reply::{CachedReply, kept_reply};
-use crate::key::{CacheKey, key_of};
+use crate::key::{CacheKey, key_for, key_of};
+use dns_base::{AdditionalBuilder, QuestionRef};
 use dns_route::{ReplyMessage, Seed, SingleService, Turned};
 use dns_service::{OutOfMemory, Polled, Request};
 use lru::LruCache;
@@ -128,6 +131,90 @@ impl Cache {
             Some(key) => self.ask_for(alloc, service, request, k, key),
             None => service.turn(alloc, request, k),
         }
+    }
+
+    /// The message that `ask` answers a request with at turn 0 out of the cache, built, or none if it would ask the service. The entry
+    /// of the message comes first. A refused call leaves the cache.
+    pub fn young(
+        &mut self,
+        alloc: Global,
+        request: &Request<()>,
+    ) -> Result<Option<AdditionalBuilder>, OutOfMemory>
+        ensures message { IfOk result (λ b. GivesBuilt (asked_cache self.old request.now 0 Pending).cached b) }
+        ensures asked { IfOk result (λ b. is_some b ≡ true → AsksByName request.now.octets) }
+        ensures cache { OnOk result (self.new ≡ (asked_cache self.old request.now 0 Pending).behind) }
+        ensures err { OnErr result (self.new ≡ self.old) }
+    {
+        match request.message().first_question() {
+            Some(question) => self.young_for(alloc, request, &question),
+            None => Ok(None),
+        }
+    }
+
+    /// The message of a young entry for a request's first question, if there is one.
+    fn young_for(
+        &mut self,
+        alloc: Global,
+        request: &Request<()>,
+        question: &QuestionRef<'_>,
+    ) -> Result<Option<AdditionalBuilder>, OutOfMemory>
+        requires { first_of (questions_of request.now.octets).0 ≡ Some question.now }
+        ensures message { IfOk result (λ b. GivesBuilt (asked_cache self.old request.now 0 Pending).cached b) }
+        ensures asked { AsksByName request.now.octets }
+        ensures cache { OnOk result (self.new ≡ (asked_cache self.old request.now 0 Pending).behind) }
+        ensures err { OnErr result (self.new ≡ self.old) }
+    {
+        let _labels = question.qname().labels();
+        match key_for(alloc, request.message(), question)? {
+            Some(key) => self.young_of(alloc, request, question, &key),
+            None => Ok(None),
+        }
+    }
+
+    /// The message of a young entry of a request's key, if there is one.
+    fn young_of(
+        &mut self,
+        alloc: Global,
+        request: &Request<()>,
+        question: &QuestionRef<'_>,
+        key: &CacheKey,
+    ) -> Result<Option<AdditionalBuilder>, OutOfMemory>
+        requires asked { first_of (questions_of request.now.octets).0 ≡ Some question.now }
+        requires key { key_of request.now.octets ≡ Some key.now }
+        ensures message { IfOk result (λ b. GivesBuilt (asked_cache self.old request.now 0 Pending).cached b) }
+        ensures cache { OnOk result (self.new ≡ (asked_cache self.old request.now 0 Pending).behind) }
+        ensures err { OnErr result (self.new ≡ self.old) }
+    {
+        match self.use_message(alloc, request, question, key) {
+            Ok(Some(built)) => Ok(Some(built)),
+            Ok(None) => Ok(None),
+            Err(error) => Err(error),
+        }
+    }
+
+    /// The message of a young entry of the key, built. The entry comes first.
+    fn use_message(
+        &mut self,
+        alloc: Global,
+        request: &Request<()>,
+        question: &QuestionRef<'_>,
+        key: &CacheKey,
+    ) -> Result<Option<AdditionalBuilder>, OutOfMemory>
+        requires asked { first_of (questions_of request.now.octets).0 ≡ Some question.now }
+        requires key { key_of request.now.octets ≡ Some key.now }
+        ensures message { IfOk result (λ b. GivesBuilt
+            (option_and_then (young_message request.now) (lookup (same_key key.now) self.old.entries)) b) }
+        ensures used { IfOk result (λ b. (self.new ≡ used_where b key.now self.old)) }
+        ensures err { OnErr result (self.new ≡ self.old) }
+    {
+        let Some(kept) = self.entries.peek(key) else {
+            return Ok(None);
+        };
+        let built = kept.aged_message(alloc, request, question)?;
+        if built.is_some() {
+            self.entries.promote(key);
+        }
+        Ok(built)
     }
 
     /// Poll `k` of a request that has this key: a cached reply at once, or else the service's turn, whose reply may be

@@ -3,7 +3,8 @@
 ghost use Rattle.std.specs.Prelude.{◌≡◌, ◌≤◌, ◌-◌, ◌∷◌, [], ℕ, List, length, IfOk, IsTrue, Ok, is_ok, true};
 ghost use Rattle.std.specs.Option.{option_copied};
 ghost use Rattle.dns_base.specs.Header.{IsHeader, header_of};
-ghost use Rattle.dns_base.specs.Msg.{IsMessage};
+ghost use Rattle.dns_message.specs.declared.question.Question.{Question};
+ghost use Rattle.dns_base.specs.Msg.{HasName, IsMessage};
 ghost use Rattle.dns_base.specs.Sections.{message_of, questions_of};
 ghost use Rattle.dns_base.specs.Wire.{wire};
 ghost use Rattle.dns_opt.specs.Reopened.{less_opts};
@@ -26,6 +27,9 @@ use dns_route::{ComposeReply, ReplyMessage, typed_messages_are_copied};
 use dns_service::{OutOfMemory, ReplyError, Request};
 use std::alloc::Global;
 use std::marker::Model;
+
+/// How many octets of records fit beside each question: 65,535 less a header's 12 and the 259 of the longest question.
+const SHORT: usize = 65_264;
 
 /// A reply that is kept. Its message is kept as octets, without its OPT record, which lies beside them.
 #[derive(Drop)]
@@ -214,13 +218,22 @@ impl CachedReply {
 
     /// How many octets the message takes with a question in place of its own, at any age.
     fn size_with(&self, question: &QuestionRef<'_>) -> usize
-        ensures size { (request : List ℕ) (age : ℕ) → (questions_of request).0 ≡ question.now ∷ []
+        ensures { (request : List ℕ) (age : ℕ) → (questions_of request).0 ≡ question.now ∷ []
             → result ≡ length (wire (aged self.now.message request age)) }
-        ensures readable { (request : List ℕ) (age : ℕ) → (questions_of request).0 ≡ question.now ∷ []
-            → IsHeader (header_of request) → is_ok (copied (wire (aged self.now.message request age))) ≡ true }
     {
         let records = self.message.as_slice().len() - self.start;
         12 + question.compose_len() + records + opt_size(&self.opt)
+    }
+
+    /// Whether its records are so few that the message fits with each question, at any age.
+    fn is_short(&self) -> bool
+        ensures fits { result ≡ true → (question : Question) (request : List ℕ) (age : ℕ) → HasName question
+            → (questions_of request).0 ≡ question ∷ [] → fits_frame (aged self.now.message request age) ≡ true }
+        ensures readable { (question : Question) (request : List ℕ) (age : ℕ) → HasName question → (questions_of request).0 ≡ question ∷ []
+            → IsHeader (header_of request) → is_ok (copied (wire (aged self.now.message request age))) ≡ true }
+    {
+        let records = self.message.as_slice().len() - self.start;
+        records + opt_size(&self.opt) <= SHORT
     }
 
     /// Whether the message fits with a question in place of its own, at any age.
@@ -230,6 +243,10 @@ impl CachedReply {
         ensures readable { (request : List ℕ) (age : ℕ) → (questions_of request).0 ≡ question.now ∷ []
             → IsHeader (header_of request) → is_ok (copied (wire (aged self.now.message request age))) ≡ true }
     {
+        let _labels = question.qname().labels();
+        if self.is_short() {
+            return true;
+        }
         self.size_with(question) <= 65535
     }
 }

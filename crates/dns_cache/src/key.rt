@@ -6,6 +6,8 @@ ghost use Rattle.std.specs.Cmp.{partial_equiv_from_equiv};
 ghost use Rattle.std.specs.Cmp.Lexicographic.{pointwise};
 ghost use Rattle.dns_name.specs.Labels.{IsName, folded, spell};
 ghost use Rattle.dns_base.specs.Options.{IsOptionList};
+ghost use Rattle.dns_base.specs.Sections.{first_of, questions_of};
+ghost use Rattle.dns_opt.specs.OptRecords.{opt_of};
 ghost use Rattle.dns_cache.specs.Keys.{asks_once, key_of, key_writes, lists_subnet, names_subnet, question_key, same_key, same_key_equiv, wants_dnssec};
 
 use dns_base::{Class, Labels, Message, Opcode, OptionCode, QuestionRef, Rtype, first_option};
@@ -90,14 +92,39 @@ pub(crate) fn key_of(alloc: Global, request: &Request<()>) -> Result<Option<Cach
     ensures { IfOk result (λ k. k ≡ key_of request.now.octets) }
 {
     let message = request.message();
-    if !asks_once(message) {
+    match message.first_question() {
+        Some(question) => key_for(alloc, message, &question),
+        None => Ok(None),
+    }
+}
+
+/// The key of a request whose first question this is.
+pub(crate) fn key_for(
+    alloc: Global,
+    request: &Message,
+    question: &QuestionRef<'_>,
+) -> Result<Option<CacheKey>, OutOfMemory>
+    requires { first_of (questions_of request.now).0 ≡ Some question.now }
+    ensures { IfOk result (λ k. k ≡ key_of request.now) }
+{
+    if !asks_once(request) {
         return Ok(None);
     }
-    let opt = message.opt();
-    match message.first_question() {
-        Some(question) if !names_subnet(&opt) => question_key(alloc, &question, wants_dnssec(&opt)),
-        _ => Ok(None),
+    let opt = opt_of(request);
+    if names_subnet(&opt) {
+        return Ok(None);
     }
+    question_key(alloc, question, wants_dnssec(&opt))
+}
+
+/// The OPT record of a request. A message that states no additional records isn't read for it.
+fn opt_of(request: &Message) -> Option<OptRecordRef<'_>>
+    ensures { result ≡ opt_of request.now }
+{
+    if request.header_counts().arcount == 0 {
+        return None;
+    }
+    request.opt()
 }
 
 /// The key of a question.

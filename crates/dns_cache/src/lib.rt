@@ -4,6 +4,7 @@
 //!   from queries can't be picked to collide.
 //! - `ask` answers from the cache or asks the service, and keeps a reply that can be kept. Its clock is the seconds
 //!   of the request.
+//! - `young` gives the message that `ask` would answer with out of the cache, built.
 //! - `len`, `clear` and `remove` look after the entries.
 //!
 //! An entry is found by question and DO bit, and its records are kept as they came. Past the capacity the entry that
@@ -16,7 +17,7 @@
 //!
 //! # What is proved
 //!
-//! - `ask` answers and leaves the cache exactly as `asked_cache` says.
+//! - `ask` answers and leaves the cache exactly as `asked_cache` says. So does `young`, as over a service that has no answer yet.
 //! - A reply out of the cache is an earlier reply of the service to that question. It is younger than its least TTL,
 //!   and every TTL is lowered by its age (`cached_replies_are_earlier_ones`).
 //! - A reply whose least TTL is 0 isn't kept, nor is one that can't be built.

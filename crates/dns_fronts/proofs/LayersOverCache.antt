@@ -1,19 +1,17 @@
 -- What a cache behind the layers does to how they take a request.
-use Rattle.std.proofs.Common.{◌≡◌, ◌∙◌, ◌≤◌, ℕ, Bool, true, cond, List, length, Option, Some, None, Result, Ok, Err, refl, ap, sym, subst}
-use Rattle.std.specs.Prelude.{OnOk, nat_le}
-use Rattle.std.proofs.lemmas.Bool.{le-leb}
-use Rattle.dns_name.specs.declared.error.ParseError.{ParseError}
-use Rattle.dns_base.specs.Wire.{wire}
+use Rattle.std.proofs.Common.{◌≡◌, ◌∙◌, ℕ, true, List, Option, Some, None, Result, Ok, Err, refl, ap, sym, subst}
+use Rattle.std.specs.Prelude.{OnOk, is_some}
 use Rattle.dns_base.specs.Msg.{Msg}
 use Rattle.dns_events.specs.declared.settings.Settings.{Settings}
 use Rattle.dns_service.specs.Answer.{Item}
 use Rattle.dns_service.specs.Req.{Req}
-use Rattle.dns_service.specs.declared.service.Polled.TheVariants.{Pending, Ready}
-use Rattle.dns_service.specs.declared.service.ServiceError.{ServiceError}
+use Rattle.dns_service.specs.declared.service.Polled.TheVariants.{Pending}
 use Rattle.dns_service.specs.declared.service.ServiceError.TheVariants.{InternalError}
-use Rattle.dns_route.specs.ReplyMessage.{ReplyState}
-use Rattle.dns_route.specs.Turns.{TurnAnswer, built_item, turn_item}
-use Rattle.dns_cache.specs.AskedCache.{AnswersCached, Cached, asked_cache, cached_message}
+use Rattle.dns_route.specs.Turns.{TurnAnswer}
+use Rattle.dns_base.specs.Built.{Built}
+use Rattle.dns_service.specs.declared.service.CallResult.{CallResult}
+use Rattle.dns_cache.specs.Steps.{GivesBuilt}
+use Rattle.dns_cache.specs.AskedCache.{AnswersCached, Cached, asked_cache, behind_call, cached_message}
 use Rattle.dns_cache.specs.Keys.{AskedKey, key_of}
 use Rattle.dns_middleware.specs.declared.wrap_post.WrapPost.{WrapPost}
 use Rattle.dns_middleware.specs.WrappedStreams.{wrap_by}
@@ -23,7 +21,7 @@ use Rattle.dns_proxy.specs.declared.front.Taken.TheVariants.{Own, Passed}
 use Rattle.dns_layers.specs.Rewritten.{rewritten}
 use Rattle.dns_fronts.specs.Caching.{cache_taken, cached_asks, cached_over, item_of, looked_up, taken_by, unless_young, young_item, young_or}
 use Rattle.dns_fronts.specs.Layered.{asked_message, layered}
-use Rattle.dns_fronts.specs.Passed.{taken_unless}
+use Rattle.dns_fronts.specs.Passed.{passed_to, passed_unless, taken_unless}
 
 none-asked : (x : Option Msg) (m : Option (List ℕ)) → m ≡ None → unless_young x m ≡ None
 none-asked None m h = h
@@ -49,6 +47,21 @@ passed-cached s c r rule message h = passed-by s r rule message (looked_up c r).
 pub passed-behind : (s : Settings) (c : Cached) (r : Req (Unit {0})) (rule : WrapPost) (message : List ℕ) → IsTaken wrap_by (λ i. layered s i r) (asked_message s r) (Passed rule message) → (looked_up c r).behind ≡ cache_taken s c r
 passed-behind s c r rule message h = sym (ap (λ (m : Option (List ℕ)). taken_by m c (looked_up c r).behind) h.0)
 
+-- by the message that can be sent for it
+pub on-passed : (s : Settings) (c : Cached) (r : Req (Unit {0})) (rule : WrapPost) (m : Option (List ℕ)) → IsTaken wrap_by (λ i. layered s i r) (asked_message s r) (passed_to rule m)
+    → IsTaken wrap_by (λ i. cached_over s c i r) (cached_asks s c r) (passed_unless rule m (looked_up c r).cached)
+on-passed s c r rule None h = own-cached s c r (Err InternalError) h
+on-passed s c r rule (Some message) h = passed-cached s c r rule message h
+
+pub behind-passed : (s : Settings) (c : Cached) (r : Req (Unit {0})) (rule : WrapPost) (m : Option (List ℕ)) → IsTaken wrap_by (λ i. layered s i r) (asked_message s r) (passed_to rule m)
+    → taken_by m c (looked_up c r).behind ≡ cache_taken s c r
+behind-passed s c r rule None h = own-behind s c r (Err InternalError) h
+behind-passed s c r rule (Some message) h = passed-behind s c r rule message h
+
+pub taken-some : (m : Option (List ℕ)) (c behind : Cached) → is_some m ≡ true → behind ≡ taken_by m c behind
+taken-some None c behind h = absurd (cc)
+taken-some (Some message) c behind h = refl
+
 -- at a later turn than 0 nothing is taken out of the cache
 later-none : (c : Cached) (r : Req (Unit {0})) (key : Option AskedKey) → cached_message c r 1 key ≡ None
 later-none c r None = refl
@@ -58,19 +71,20 @@ pub answered-so : (c : Cached) (r : Req (Unit {0})) (a turned : TurnAnswer) → 
 answered-so c r a turned h = subst (λ (x : Option Msg). AnswersCached x a turned) (later-none c r (key_of r.octets)) h
 
 -- what a request is given out of the cache
-pub young-none : (x : Option Msg) (turned : TurnAnswer) → AnswersCached x Pending turned → turned ≡ Pending → None ≡ young_item x
-young-none None turned h e = refl
-young-none (Some m) turned h e = let no : Ready (Ok h.0) ≡ Pending = sym h.1 ∙ e in absurd (cc)
+pub young-none : (x : Option Msg) (b : Option Built) → GivesBuilt x b → b ≡ None → None ≡ young_item x
+young-none None b h e = refl
+young-none (Some m) None h e = absurd h
+young-none (Some m) (Some b) h e = absurd (cc)
 
-pub young-some : (x : Option Msg) (turned : TurnAnswer) (t : Result ReplyState ServiceError) → AnswersCached x Pending turned → turned ≡ Ready t → Some (turn_item t) ≡ young_item x
-young-some None turned t h e = let no : Ready t ≡ Pending = sym e ∙ h in absurd (cc)
-young-some (Some m) turned t h e =
-    let same : Ready t ≡ Ready (Ok h.0) = sym e ∙ h.1 in
-    let is : t ≡ Ok h.0 = cc in
-    let fits : nat_le (length (wire m)) 65535 ≡ true = le-leb (length (wire m)) 65535 h.3 in
-    ap (λ (r : Result ReplyState ServiceError). Some (turn_item r)) is
-    ∙ (ap (λ (b : Result Msg ParseError). Some (built_item b)) h.2
-    ∙ ap (λ (b : Bool). Some (cond b (item_of m) (Err InternalError))) fits)
+pub young-some : (x : Option Msg) (b : Option Built) (built : Built) (r : CallResult) → GivesBuilt x b → b ≡ Some built → r ≡ record { response = Some built.message; feedback = None }
+    → Some (Ok r) ≡ young_item x
+young-some None None built r h e is = absurd (cc)
+young-some None (Some b) built r h e is = absurd h
+young-some (Some m) None built r h e is = absurd (cc)
+young-some (Some m) (Some b) built r h e is =
+    let same : b ≡ built = cc in
+    let message : built.message ≡ m = ap (λ (x : Built). x.message) (sym same) ∙ h in
+    ap (λ (x : CallResult). let i : Item = Ok x in Some i) is ∙ ap (λ (x : Msg). Some (item_of x)) message
 
 pub young-taken : (rule : WrapPost) (message : List ℕ) (x : Option Msg) (young : Option Item) (item : Item) → young ≡ young_item x → young ≡ Some item → Own (rewritten (wrap_by rule) item) ≡ taken_unless rule message x
 young-taken rule message None young item e is = let no : Some item ≡ None = sym is ∙ e in absurd (cc)
@@ -78,6 +92,30 @@ young-taken rule message (Some m) young item e is =
     let same : Some item ≡ Some (item_of m) = sym is ∙ e in
     let one : item ≡ item_of m = cc in
     ap (λ (i : Item). let t : Taken WrapPost = Own (rewritten (wrap_by rule) i) in t) one
+
+-- where a message can be sent
+pub young-found : (rule : WrapPost) (m : Option (List ℕ)) (x : Option Msg) (young : Option Item) (item : Item) → is_some m ≡ true → young ≡ young_item x → young ≡ Some item → Own (rewritten (wrap_by rule) item) ≡ passed_unless rule m x
+young-found rule None x young item some e is = absurd (cc)
+young-found rule (Some message) x young item some e is = young-taken rule message x young item e is
+
+pub none-found : (rule : WrapPost) (m : Option (List ℕ)) (x : Option Msg) (young : Option Item) → young ≡ young_item x → young ≡ None → passed_to rule m ≡ passed_unless rule m x
+none-found rule None x young e is = refl
+none-found rule (Some message) None young e is = refl
+none-found rule (Some message) (Some m) young e is = let no : Some (item_of m) ≡ None = sym e ∙ is in absurd (cc)
+
+-- where there is no young reply the cache stays
+none-young : (x : Option Msg) → young_item x ≡ None → x ≡ None
+none-young None h = refl
+none-young (Some m) h = let no : Some (item_of m) ≡ None = h in absurd (cc)
+
+left-there : (c : Cached) (r : Req (Unit {0})) (key : Option AskedKey) → behind_call c r Pending key None ≡ c
+left-there c r None = refl
+left-there c r (Some key) = refl
+
+pub none-behind : (c : Cached) (r : Req (Unit {0})) (m : Option (List ℕ)) (young : Option Item) → young ≡ young_item (looked_up c r).cached → young ≡ None → (looked_up c r).behind ≡ taken_by m c (looked_up c r).behind
+none-behind c r None young e is =
+    ap (behind_call c r Pending (key_of r.octets)) (none-young (looked_up c r).cached (sym e ∙ is)) ∙ left-there c r (key_of r.octets)
+none-behind c r (Some message) young e is = refl
 
 -- what holds anyway
 pub on-ok : {T E P : Type 0} (r : Result T E) → P → OnOk r P

@@ -1,22 +1,25 @@
 //! A cache behind the layers, before upstreams.
 
-ghost use Rattle.std.specs.Prelude.{◌≡◌, IfOk, OnOk, length};
+ghost use Rattle.std.specs.Prelude.{◌≡◌, IfOk, OnOk, is_some, length, true};
+ghost use Rattle.dns_base.specs.Sections.{counts_of};
+ghost use Rattle.dns_cache.specs.Keys.{AsksByName};
 ghost use Rattle.dns_layers.specs.Rewritten.{rewritten};
 ghost use Rattle.dns_middleware.specs.Wrapped.{hint_left};
-ghost use Rattle.dns_fronts.specs.Layered.{given};
-ghost use Rattle.dns_fronts.specs.Caching.{cache_given, cache_taken, cached_asks, cached_over, looked_up, young_item};
-ghost use Rattle.dns_fronts.specs.Passed.{taken_unless};
+ghost use Rattle.dns_fronts.specs.Layered.{asks_alone, given, sendable};
+ghost use Rattle.dns_fronts.specs.Caching.{cache_given, cache_taken, cached_asks, cached_over, looked_up, taken_by, young_item};
+ghost use Rattle.dns_fronts.specs.Passed.{passed_unless, taken_unless};
 ghost use Rattle.dns_fronts.specs.Required.{settings_for};
 
-use crate::layered::{LayeredFront, given_turn, own_of};
-use crate::single::{Answered, Unanswered};
+use crate::layered::{Decided, LayeredFront, given_turn, item_in, pass};
+use crate::sendable::{asks_alone, sendable};
+use crate::single::Answered;
 use dns_base::Message;
 use dns_cache::Cache;
 use dns_layers::{Rewrite, rewrite_answer};
 use dns_middleware::WrapPost;
 use dns_proxy::{Front, Taken};
-use dns_route::{SendError, turn_item};
-use dns_service::{OutOfMemory, Polled, Request, ServiceResult};
+use dns_route::SendError;
+use dns_service::{CallResult, OutOfMemory, Polled, Request, ServiceError, ServiceResult};
 use std::alloc::Global;
 
 /// The layers with a cache after them: what they pass on is answered out of the cache if that has a young reply for it. The
@@ -49,15 +52,13 @@ impl CachedFront {
         request: &Request<()>,
     ) -> Result<Option<ServiceResult>, OutOfMemory>
         ensures item { IfOk result (λ i. i ≡ young_item (looked_up self.old.cache request.now).cached) }
+        ensures asked { IfOk result (λ i. is_some i ≡ true → AsksByName request.now.octets) }
         ensures cache { OnOk result (self.new ≡ record self.old { cache = (looked_up self.old.cache request.now).behind }) }
     {
-        let turned = self.cache.ask(alloc, &Unanswered {}, request, 0)?;
-        match turned {
-            Polled::Pending => Ok(None),
-            Polled::Ready(reply) => {
-                let item = turn_item(alloc, reply)?;
-                Ok(Some(item))
-            }
+        let found = self.cache.young(alloc, request)?;
+        match found {
+            Some(built) => Ok(Some(Ok(CallResult::new(built)))),
+            None => Ok(None),
         }
     }
 
@@ -76,6 +77,49 @@ impl CachedFront {
         match young {
             Some(item) => own_by(alloc, &rule, item),
             None => Ok(Taken::Passed(rule, message)),
+        }
+    }
+
+    /// How a request of one question and no records is taken that the layers pass on. A message is made for it if the cache has no
+    /// young reply, since one can be sent if the cache has.
+    fn unless_found(
+        &mut self,
+        alloc: Global,
+        request: &Request<()>,
+        rule: WrapPost,
+    ) -> Result<Taken<WrapPost>, OutOfMemory>
+        requires { asks_alone (counts_of request.now.octets) ≡ true }
+        ensures taken { let cached = (looked_up self.old.cache request.now).cached in
+            IfOk result (λ t. t ≡ passed_unless rule (sendable request.now.octets) cached) }
+        ensures cache { let behind = (looked_up self.old.cache request.now).behind in
+            OnOk result (self.new ≡ record self.old { cache = taken_by (sendable request.now.octets) self.old.cache behind }) }
+    {
+        let found = self.young(alloc, request)?;
+        match found {
+            Some(young) => own_by(alloc, &rule, young),
+            None => pass(alloc, request, rule),
+        }
+    }
+
+    /// How a request is taken that the layers pass on. The cache is asked if a message can be sent for it.
+    fn passed(
+        &mut self,
+        alloc: Global,
+        request: &Request<()>,
+        rule: WrapPost,
+    ) -> Result<Taken<WrapPost>, OutOfMemory>
+        ensures taken { let cached = (looked_up self.old.cache request.now).cached in
+            IfOk result (λ t. t ≡ passed_unless rule (sendable request.now.octets) cached) }
+        ensures cache { let behind = (looked_up self.old.cache request.now).behind in
+            OnOk result (self.new ≡ record self.old { cache = taken_by (sendable request.now.octets) self.old.cache behind }) }
+    {
+        if asks_alone(request.message().header_counts()) {
+            return self.unless_found(alloc, request, rule);
+        }
+        let sent = sendable(alloc, request)?;
+        match sent {
+            Some(message) => self.unless_young(alloc, request, rule, message),
+            None => Ok(Taken::Own(Err(ServiceError::InternalError))),
         }
     }
 }
@@ -100,10 +144,10 @@ impl Front for CachedFront {
         alloc: Global,
         request: &mut Request<()>,
     ) -> Result<Taken<WrapPost>, OutOfMemory> {
-        let taken = self.front.take(alloc, request)?;
-        match taken {
-            Taken::Own(item) => Ok(Taken::Own(item)),
-            Taken::Passed(rule, message) => self.unless_young(alloc, request, rule, message),
+        let decided = self.front.decided(alloc, request)?;
+        match decided {
+            Decided::Own(item) => Ok(Taken::Own(item)),
+            Decided::Passed(rule) => self.passed(alloc, request, rule),
         }
     }
 
@@ -128,5 +172,5 @@ pub(crate) fn own_by<R: Rewrite, T>(
 {
     let mut answer = Polled::Ready(Some(item));
     rewrite_answer(rule, alloc, &mut answer)?;
-    Ok(own_of(answer))
+    Ok(Taken::Own(item_in(answer)))
 }

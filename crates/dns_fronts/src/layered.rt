@@ -6,9 +6,8 @@ ghost use Rattle.dns_layers.specs.Calls.{LeavesHint};
 ghost use Rattle.dns_layers.specs.Rewritten.{rewritten};
 ghost use Rattle.dns_middleware.specs.Wrapped.{hint_left};
 ghost use Rattle.dns_middleware.specs.WrappedStreams.{wrap_by};
-ghost use Rattle.dns_proxy.specs.Fronts.{IsTaken};
 ghost use Rattle.dns_fronts.specs.Layered.{asked_message, given, given_turn, item_in, layered, sendable};
-ghost use Rattle.dns_fronts.specs.Passed.{passed_to};
+ghost use Rattle.dns_fronts.specs.Passed.{IsDecided, passed_to};
 ghost use Rattle.dns_fronts.specs.Required.{denying, settings_for};
 
 use crate::networks::{Network, is_in_any};
@@ -41,6 +40,32 @@ impl LayeredFront {
     {
         LayeredFront { settings, required }
     }
+
+    /// How the layers take a request, by the settings for its client.
+    pub(crate) fn decided(
+        &self,
+        alloc: Global,
+        request: &mut Request<()>,
+    ) -> Result<Decided, OutOfMemory>
+        ensures taken { let s = settings_for self.now request.old in
+            IfOk result (IsDecided s request.old) }
+        ensures kept { let s = settings_for self.now request.old in
+            LeavesHint (hint_left s request.old) request.old request.new result }
+    {
+        if is_in_any(self.required.as_slice(), request.client_addr().ip) {
+            return decided_denied(alloc, &self.settings, request);
+        }
+        decided_by(alloc, &self.settings, request)
+    }
+}
+
+/// How the layers take a request, before a message is made that is sent on for it.
+#[derive(Drop)]
+pub(crate) enum Decided {
+    /// It is answered with this at once.
+    Own(ServiceResult),
+    /// It is passed on, and what is given for it is rewritten by this rule.
+    Passed(WrapPost),
 }
 
 impl Front for LayeredFront {
@@ -63,10 +88,11 @@ impl Front for LayeredFront {
         alloc: Global,
         request: &mut Request<()>,
     ) -> Result<Taken<WrapPost>, OutOfMemory> {
-        if is_in_any(self.required.as_slice(), request.client_addr().ip) {
-            return take_denied(alloc, &self.settings, request);
+        let decided = self.decided(alloc, request)?;
+        match decided {
+            Decided::Own(item) => Ok(Taken::Own(item)),
+            Decided::Passed(post) => pass(alloc, request, post),
         }
-        take_by(alloc, &self.settings, request)
     }
 
     fn give(
@@ -107,33 +133,32 @@ fn denying(alloc: Global, settings: &Settings, address: IpAddr) -> Result<Settin
 }
 
 /// How the layers of some settings take a request whose client is denied service without a good cookie.
-fn take_denied(
+fn decided_denied(
     alloc: Global,
     settings: &Settings,
     request: &mut Request<()>,
-) -> Result<Taken<WrapPost>, OutOfMemory>
-    ensures taken { let s = denying settings.now request.old.client_addr.ip in
-        IfOk result (IsTaken wrap_by (λ i. layered s i request.old) (asked_message s request.old)) }
+) -> Result<Decided, OutOfMemory>
+    ensures taken { let s = denying settings.now request.old.client_addr.ip in IfOk result (IsDecided s request.old) }
     ensures kept { let s = denying settings.now request.old.client_addr.ip in
         LeavesHint (hint_left s request.old) request.old request.new result }
 {
     let settings = denying(alloc, settings, request.client_addr().ip)?;
-    take_by(alloc, &settings, request)
+    decided_by(alloc, &settings, request)
 }
 
 /// How the layers of some settings take a request.
-fn take_by(
+fn decided_by(
     alloc: Global,
     settings: &Settings,
     request: &mut Request<()>,
-) -> Result<Taken<WrapPost>, OutOfMemory>
-    ensures taken { IfOk result (IsTaken wrap_by (λ i. layered settings.now i request.old) (asked_message settings.now request.old)) }
+) -> Result<Decided, OutOfMemory>
+    ensures taken { IfOk result (IsDecided settings.now request.old) }
     ensures kept { LeavesHint (hint_left settings.now request.old) request.old request.new result }
 {
     match decide(alloc, settings, &NoSecondaries {}, request) {
-        Ok(Decision::Own(reply)) => Ok(Taken::Own(Ok(CallResult::new(reply)))),
+        Ok(Decision::Own(reply)) => Ok(Decided::Own(Ok(CallResult::new(reply)))),
         Ok(Decision::Asking(stream, post)) => refused_notice(alloc, stream, post),
-        Ok(Decision::Passed(post)) => pass(alloc, request, post),
+        Ok(Decision::Passed(post)) => Ok(Decided::Passed(post)),
         Err(error) => Err(error),
     }
 }
@@ -143,29 +168,29 @@ fn refused_notice(
     alloc: Global,
     stream: AskStream<NoSecondaries>,
     post: WrapPost,
-) -> Result<Taken<WrapPost>, OutOfMemory>
+) -> Result<Decided, OutOfMemory>
     ensures { let first = ⟦<AskStream<NoSecondaries> as ReplyStream>⟧.answer stream 0 in
-        IfOk result (λ t. t ≡ Taken.Own (item_in (mapped (rewritten (wrap_by post)) first))) }
+        IfOk result (λ d. d ≡ Decided.Own (item_in (mapped (rewritten (wrap_by post)) first))) }
 {
     let mut stream = stream;
     let mut answer = stream.poll_next(alloc)?;
     rewrite_answer(&post, alloc, &mut answer)?;
-    Ok(own_of(answer))
+    Ok(Decided::Own(item_in(answer)))
 }
 
-/// A request is answered with an item that is there.
-pub(crate) fn own_of<R>(answer: Polled<Option<ServiceResult>>) -> Taken<R>
-    ensures { result ≡ Taken.Own (item_in answer) }
+/// The item in an answer, which is there.
+pub(crate) fn item_in(answer: Polled<Option<ServiceResult>>) -> ServiceResult
+    ensures { result ≡ item_in answer }
 {
     match answer {
-        Polled::Ready(Some(item)) => Taken::Own(item),
-        Polled::Ready(None) => Taken::Own(Err(ServiceError::InternalError)),
-        Polled::Pending => Taken::Own(Err(ServiceError::InternalError)),
+        Polled::Ready(Some(item)) => item,
+        Polled::Ready(None) => Err(ServiceError::InternalError),
+        Polled::Pending => Err(ServiceError::InternalError),
     }
 }
 
 /// A request that is passed on, by what is asked for it.
-fn pass(
+pub(crate) fn pass(
     alloc: Global,
     request: &Request<()>,
     post: WrapPost,

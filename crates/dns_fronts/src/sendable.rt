@@ -28,7 +28,7 @@ pub(crate) fn sendable(alloc: Global, request: &Request<()>) -> Result<Option<Me
 }
 
 /// Whether a header states one question and no records.
-fn asks_alone(counts: HeaderCounts) -> bool
+pub(crate) fn asks_alone(counts: HeaderCounts) -> bool
     ensures { result ≡ asks_alone counts }
 {
     counts.qdcount == 1 && counts.ancount == 0 && counts.nscount == 0 && counts.arcount == 0

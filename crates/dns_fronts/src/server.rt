@@ -85,17 +85,34 @@ impl ServerFront<CachedFront> {
 fn size_of(request: &Request<()>) -> Option<u16>
     ensures { result ≡ size_of request.now }
 {
-    if read_request(request).opt.has_item() {
+    if has_item(request) {
         return None;
     }
     Some(CLASSIC_SIZE)
+}
+
+/// Whether a request has an OPT record, or what is refused as one. One that states no additional records isn't read for it.
+fn has_item(request: &Request<()>) -> bool
+    ensures { result ≡ has_item (asked_of request.now.octets).opt }
+{
+    if request.message().header_counts().arcount == 0 {
+        return false;
+    }
+    read_request(request).opt.has_item()
 }
 
 /// What the OPT records of the replies to a request state, of a server of this size.
 fn own_opt_of(size: u16, request: &Request<()>) -> OwnOpt
     ensures { result ≡ own_rule size request.now.octets }
 {
-    OwnOpt::new(size, request.message())
+    let message = request.message();
+    if message.header_counts().arcount == 0 {
+        return OwnOpt {
+            size,
+            dnssec_ok: false,
+        };
+    }
+    OwnOpt::new(size, message)
 }
 
 /// How a request is taken that the front inside takes like this.

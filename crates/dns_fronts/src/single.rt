@@ -1,25 +1,13 @@
 //! Single services of one answer, of which a cache is asked.
 
 ghost use Rattle.std.specs.Prelude.{◌≡◌, IfOk};
-ghost use Rattle.dns_service.specs.declared.service.Polled.TheVariants.{Pending, Ready};
+ghost use Rattle.dns_service.specs.declared.service.Polled.TheVariants.{Ready};
 ghost use Rattle.dns_route.specs.Relays.{relay_answer};
 
 use dns_base::Message;
 use dns_route::{SendError, SingleService, Turned, relay_answer};
 use dns_service::{OutOfMemory, Polled, Request};
 use std::alloc::Global;
-
-/// No answer yet.
-#[derive(Drop)]
-pub(crate) struct Unanswered {}
-
-impl SingleService for Unanswered {
-    ghost answer = { λ _ _ _. Pending };
-
-    fn turn(&self, _: Global, _: &Request<()>, _: u64) -> Result<Turned, OutOfMemory> {
-        Ok(Polled::Pending)
-    }
-}
 
 /// An upstream's answer.
 #[derive(Drop)]
