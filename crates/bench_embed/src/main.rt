@@ -76,7 +76,20 @@ fn answered(
 /// The length of the reply that is built, and rewritten by a rule.
 #[inline(never)]
 fn built(alloc: Global, rule: &ReplyRule, query: &[u8], reply: &mut [u8]) -> Option<usize> {
-    let mut held = ServiceReply::begin(alloc, query, Rcode::NOERROR, true).ok()??;
+    match ServiceReply::begin(alloc, query, Rcode::NOERROR, true) {
+        Ok(Some(mut held)) => filled(alloc, rule, query, &mut held, reply),
+        _ => None,
+    }
+}
+
+/// The length of a reply to which a record is added, and which is rewritten by a rule.
+fn filled(
+    alloc: Global,
+    rule: &ReplyRule,
+    query: &[u8],
+    held: &mut ServiceReply,
+    reply: &mut [u8],
+) -> Option<usize> {
     let record = PlainRecord {
         owner: NameRef::from_slice(query.get(12..25)?).ok()?,
         rtype: Rtype::A,
@@ -111,6 +124,11 @@ fn many(alloc: Global, service: Service, count: u64) -> u64 {
     let mut settings = Settings::new(alloc);
     settings.strict = count != 77;
     settings.edns = count != 78;
+    summed(alloc, service, &settings, count)
+}
+
+/// The sum of the lengths under these settings.
+fn summed(alloc: Global, service: Service, settings: &Settings, count: u64) -> u64 {
     let mut reply = [0u8; 512];
     let mut sum = 0u64;
     for at in 0..count {
@@ -123,7 +141,7 @@ fn many(alloc: Global, service: Service, count: u64) -> u64 {
         };
         let size = if count == 80 { None } else { Some(1232) };
         let len = once(
-            alloc, service, &settings, verdict, size, at, &QUERY, &mut reply,
+            alloc, service, settings, verdict, size, at, &QUERY, &mut reply,
         );
         sum = sum.wrapping_add(len as u64);
     }
@@ -139,13 +157,17 @@ fn service_of(word: &str) -> Option<Service> {
     }
 }
 
+/// What the words for the reply and for the count ask for.
+fn counted(alloc: Global, service: &str, count: &str) -> Option<u64> {
+    let service = service_of(service)?;
+    let count = count.parse::<u64>().ok()?;
+    Some(many(alloc, service, count))
+}
+
 fn asked(alloc: Global, words: Args) -> Option<u64> {
     match words.collect::<Vec<String>>(alloc) {
         Ok(words) => match words.as_slice() {
-            [_, service, count] => match count.parse::<u64>() {
-                Ok(count) => Some(many(alloc, service_of(service)?, count)),
-                Err(_) => None,
-            },
+            [_, service, count] => counted(alloc, service.as_str(), count.as_str()),
             _ => None,
         },
         Err(_) => None,
