@@ -1,5 +1,5 @@
 -- A zone that the server is secondary of, and its copy (RFC 1034, section 4.3.5).
-use Rattle.std.specs.Prelude.{ℕ, Bool, true, false, ◌≡◌, ◌&&◌, not, List, nat_eq, Option, Some, None, is_none, is_some, Result, Ok, Err, MatchBool, if◌then◌else◌}
+use Rattle.std.specs.Prelude.{ℕ, Bool, true, false, ◌≡◌, ◌&&◌, List, nat_eq, Option, Some, None, is_none, is_some, Result, Ok, Err, MatchBool, if◌then◌else◌}
 use Rattle.std.specs.Str.{bytes_eq}
 use Rattle.dns_name.specs.Canonical.{same_name}
 use Rattle.dns_name.specs.declared.address.IpAddr.{IpAddr}

@@ -258,8 +258,8 @@ impl Copies {
         &self.target
     }
 
-    /// Goes on to the zones of a configuration with these summaries. A zone that was there before with its primary keeps what is
-    /// known of its copy, if that is served, and the check that is going on. Where memory runs out all stays.
+    /// Goes on to the zones of a configuration with these summaries. A zone that was there before with its primary keeps its check,
+    /// and what is known of its copy if that is served. Where memory runs out all stays.
     pub fn follow<R: Files + Clock>(
         &mut self,
         rt: &R,

@@ -28,8 +28,8 @@
 //!   written; else what is held stays (`take`).
 //! - The copy that is held is the one that is served (`Follows`). It stays with what is known of it. Where memory runs out the
 //!   zones, their copies and the target stay as they were.
-//! - A look changes a copy only by a NOTIFY, by what came of a check, by EXPIRE, or by the begin of a check that is due. It says
-//!   whether another copy, or none, is served from now on (`Looks`).
+//! - A look changes a copy only by a NOTIFY, a check's outcome, EXPIRE, or the begin of a check that is due. It says whether another
+//!   copy, or none, is served from now on (`Looks`).
 //! - What is said of each copy is its zone and its serial (`Reports`).
 //! - The target of NOTIFY has the zones and the primaries of all secondaries.
 //! - Which check is due when, and when a copy is discarded, is proved of `ZoneCopy` of dns_secondary. What comes of the

@@ -1,4 +1,4 @@
-use Rattle.std.proofs.Common.{◌≡◌, ◌<◌, List, arith, get_or, length, subst, sym}
+use Rattle.std.proofs.Common.{◌<◌, List, arith, get_or, length, subst, sym}
 use Rattle.std.specs.List.{AllZip}
 use Rattle.std.proofs.lemmas.List.{get_or_default, set-get_or}
 use Rattle.dns_zone_copies.specs.Looking.{MayBegin}

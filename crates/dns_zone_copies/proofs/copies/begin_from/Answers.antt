@@ -1,4 +1,4 @@
-use Rattle.std.proofs.Common.{◌≡◌, ◌++◌, List, subst, sym}
+use Rattle.std.proofs.Common.{◌++◌, List, subst, sym}
 use Rattle.std.specs.List.{AllZip}
 use Rattle.dns_zone_copies.specs.Looking.{MayBegin}
 use Rattle.dns_zone_copies.specs.Secondaries.{SecondaryState}

@@ -1,5 +1,5 @@
 use Rattle.std.proofs.Common.{◌≡◌, ◌∙◌, ◌∷◌, ◌++◌, [], ℕ, List, ap, append_assoc}
-use Rattle.dns_zone_copies.specs.Reporting.{AddsLine, copy_text, zone_text}
+use Rattle.dns_zone_copies.specs.Reporting.{copy_text, zone_text}
 use Rattle.dns_zone_copies.proofs.secondary.Secondary.push_line.Goals as goal
 
 joined : (a b c text one two three : List ℕ) → one ≡ text ++ a → two ≡ one ++ b → three ≡ two ++ c → three ≡ text ++ (a ++ b ++ c)
