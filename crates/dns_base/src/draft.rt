@@ -9,6 +9,7 @@ ghost use Rattle.dns_base.specs.Built.{Built, NoRecords, Pushes, empty, with_hea
 ghost use Rattle.dns_base.specs.Draft.{all_at, count_place, counted, moved_behind, start_in, start_of};
 ghost use Rattle.dns_base.specs.Replaced.{AreSpelt, less_type, other_than, records_at, spelling};
 
+mod answer_header;
 mod appending;
 mod copying;
 

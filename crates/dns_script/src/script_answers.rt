@@ -99,8 +99,7 @@ fn begin_in(
     ensures { IfOk result (λ o. MatchOption o (have_room new_builder message.now rcode ≡ false)
         (λ b. (b ≡ answer_to new_builder message.now rcode) × (have_room new_builder message.now rcode ≡ true))) }
 {
-    let builder = MessageBuilder::in_memory(alloc, memory)?;
-    match builder.start_answer(alloc, message, rcode) {
+    match MessageBuilder::start_answer_in(alloc, memory, message, rcode) {
         Ok(reply) => Ok(Some(reply)),
         Err(PushError::ShortBuf) => Ok(None),
         Err(PushError::OutOfMemory) => Err(OutOfMemory),

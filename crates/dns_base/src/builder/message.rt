@@ -58,6 +58,25 @@ impl MessageBuilder {
         })
     }
 
+    /// Begins the answer to a query as `start_answer` of the empty message does, in memory that is used again if it is large enough.
+    #[inline(always)]
+    pub fn start_answer_in(
+        alloc: Global,
+        memory: Vec<u8>,
+        message: &Message,
+        rcode: Rcode,
+    ) -> Result<AnswerBuilder, PushError>
+        ensures { Answers (record { message = empty; limit = 65535 }) message.now rcode result }
+    {
+        let mut draft = Draft::in_memory(alloc, memory)?;
+        draft.set_answer_header(message, rcode);
+        draft.copy_questions(alloc, message)?;
+        Ok(Builder {
+            draft,
+            stage: PhantomData,
+        })
+    }
+
     /// Begins the error answer to a query, as `start_answer` does; at a question that has no room the response
     /// code is set to SERVFAIL, and the questions before it stay.
     pub fn start_error(
