@@ -1,4 +1,3 @@
 pub mod Access
 pub mod Layer
 pub mod Laws
-pub mod Rules
