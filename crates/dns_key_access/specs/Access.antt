@@ -18,7 +18,7 @@ use Rattle.dns_key_access.specs.declared.access.ZoneAccess.{ZoneAccess}
 abbrev pub asker_of : Req (Option ℕ) → Asker
 asker_of r = record { address = r.client_addr.ip; key = r.metadata }
 
--- the key that is wanted, where one is
+-- the key that is wanted, if one is
 abbrev pub is_key : ℕ → Option ℕ → Bool
 is_key wanted None = false
 is_key wanted (Some given) = nat_eq given wanted

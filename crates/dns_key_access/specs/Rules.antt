@@ -10,7 +10,7 @@ use Rattle.dns_key_access.specs.declared.access.Access.{Access}
 use Rattle.dns_key_access.specs.declared.fault.RuleFault.{RuleFault}
 use Rattle.dns_key_access.specs.declared.fault.RuleFault.TheVariants.{UnknownKey, OutOfMemory}
 
--- the place of the key that is named, or that none is; nothing where no key has the name
+-- the place of the key that is named, or that none is; nothing if no key has the name
 abbrev pub place_in : List KeyParts → Option KeyName → Option (Option ℕ)
 place_in keys None = Some None
 place_in keys (Some n) = option_map (λ found. Some found.0) (key_named n.name keys)

@@ -19,7 +19,7 @@ const AXFR: u16 = 252;
 /// The type of a question that asks for what has changed in a zone (RFC 1995, section 2).
 const IXFR: u16 = 251;
 
-/// A network that is permitted: under the key of this place, or under any key and none where none is wanted.
+/// A network that is permitted: under the key of this place, or under any key and none if none is wanted.
 #[derive(Clone, Copy)]
 pub struct Access {
     pub network: Network,

@@ -26,7 +26,7 @@
 //!
 //! # What a body could still get away with
 //!
-//! That metadata is the key's place is up to the layer outside. A rule that is left out permits nothing more only where another
+//! That metadata is the key's place is up to the layer outside. A rule that is left out permits nothing more only if another
 //! rule of its zone stands.
 #![tactic(auto)]
 

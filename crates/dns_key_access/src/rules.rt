@@ -14,7 +14,7 @@ use std::alloc::Global;
 /// How many bits the longest address has.
 const ALL_BITS: u8 = 128;
 
-/// The place of the key that a rule names, or that it names none; nothing where no key has the name.
+/// The place of the key that a rule names, or that it names none; nothing if no key has the name.
 fn place_in(keys: &PeerKeys, name: &Option<KeyName>) -> Option<Option<usize>>
     ensures { result ≡ place_in keys.now name.now }
 {
@@ -27,7 +27,7 @@ fn place_in(keys: &PeerKeys, name: &Option<KeyName>) -> Option<Option<usize>>
     }
 }
 
-/// What a rule permits; nothing where it names a key that isn't there.
+/// What a rule permits; nothing if it names a key that isn't there.
 fn access_in(keys: &PeerKeys, rule: &AllowedNetwork) -> Option<Access>
     ensures { result ≡ access_in keys.now rule.now }
 {

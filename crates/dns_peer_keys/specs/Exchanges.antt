@@ -4,7 +4,7 @@ use Rattle.dns_hmac.specs.Digests.{size_of}
 use Rattle.dns_hmac.specs.Macs.{octets_of}
 use Rattle.dns_message.specs.Sections.{field}
 use Rattle.dns_tsig.specs.declared.error.TsigError.{TsigError}
-use Rattle.dns_tsig.specs.declared.signing.Stamp.{Stamp}
+use Rattle.dns_tsig.specs.declared.signing.TsigFields.{TsigFields}
 use Rattle.dns_tsig.specs.Found.{Signed}
 use Rattle.dns_tsig.specs.Keys.{KeyParts}
 use Rattle.dns_tsig.specs.Signed.{Signs}
@@ -18,15 +18,15 @@ abbrev pub tsig_time : ℕ → ℕ
 tsig_time secs = min secs 281474976710655
 
 -- the time, 300 s of fudge (section 10), and no error
-abbrev pub request_stamp : ℕ → Stamp
+abbrev pub request_stamp : ℕ → TsigFields
 request_stamp secs = record { time = tsig_time secs; fudge = 300; error = 0 }
 
--- a request is signed behind no MAC, unless its header can't count a record more
+-- a request is signed after no MAC, unless its header can't count a record more
 abbrev pub GivesSigned : KeyParts → ℕ → List ℕ → Option SignedRequest → Type 0
 GivesSigned k secs request None = field 10 request ≡ 65535
 GivesSigned k secs request (Some s) = Signs k [] (request_stamp secs) [] request s.octets.items (octets_of s.mac)
 
--- a reply that verifies under the key, with a whole MAC behind the request's
+-- a reply that verifies under the key, with a whole MAC after the request's
 abbrev pub by_refusal : Signed → Option TsigError → Result (List ℕ) TsigFault
 by_refusal s None = Ok s.bare
 by_refusal s (Some e) = Err (NotVerified e)

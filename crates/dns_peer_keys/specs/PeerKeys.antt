@@ -15,7 +15,7 @@ key_named_from n name (k ∷ keys) = if same_name name k.name then Some (n, k) e
 abbrev pub key_named : List (List ℕ) → List KeyParts → Option (ℕ × KeyParts)
 key_named name keys = key_named_from 0 name keys
 
--- a key whose secret a text writes, which isn't empty, is behind the others, none of which has its name
+-- a key whose secret a text writes, which isn't empty, is after the others, none of which has its name
 pub record AddsKey (name : List (List ℕ)) (a : Algorithm) (text : List ℕ) (before after : List KeyParts) : Type 0 where
   pub alone : key_named name before ≡ None
   pub filled : text ≢ []

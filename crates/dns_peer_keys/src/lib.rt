@@ -10,15 +10,15 @@
 //!                     -> get -> sign_request -> send .. receive -> verified_reply
 //! ```
 //!
-//! A request is signed with 300 s of fudge, behind no MAC. A reply has to have the whole MAC.
+//! A request is signed with 300 s of fudge, after no MAC. A reply has to have the whole MAC.
 //!
 //! # What is proved
 //!
 //! - A key that is added has the secret that its base64 writes, and no other has its name. A refused `add` leaves the keys.
 //! - `store` has all keys in their order.
 //! - A request is signed as RFC 8945, section 4.3, says, at the time that is handed in.
-//! - A reply is taken only if it has a TSIG of the key that verifies behind the request's MAC and says no error.
-//! - The messages of a transfer are taken as a chain behind the request's MAC, as dns_tsig has it.
+//! - A reply is taken only if it has a TSIG of the key that verifies after the request's MAC and says no error.
+//! - The messages of a transfer are taken as a chain after the request's MAC, as dns_tsig has it.
 //!
 //! # What a body could still get away with
 //!

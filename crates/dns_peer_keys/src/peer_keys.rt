@@ -60,7 +60,7 @@ impl PeerKeys {
         }
     }
 
-    /// Puts a key behind the others, whose secret a text writes in base64. A refused call leaves the keys.
+    /// Puts a key after the others, whose secret a text writes in base64. A refused call leaves the keys.
     pub fn add(
         &mut self,
         alloc: Global,
@@ -88,7 +88,7 @@ impl PeerKeys {
         }
     }
 
-    /// The key of a name, with its place from 0; none where no key has it.
+    /// The key of a name, with its place from 0; none if no key has it.
     pub fn get(&self, name: &Name) -> Option<(usize, &Arc<Key>)>
         ensures { option_map (λ found. (found.0, arc_value found.1.now)) result ≡ key_named name.now self.now }
     {

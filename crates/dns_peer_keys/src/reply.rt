@@ -77,7 +77,7 @@ fn bare(alloc: Global, signed: &Signed<'_>) -> Result<Message, OutOfMemory>
     Ok(Message::from_octets(octets).unwrap())
 }
 
-/// Why a message of a transfer isn't taken that was refused with this error: what its TSIG says, where that says an error.
+/// Why a message of a transfer isn't taken that was refused with this error: what its TSIG says, if that says an error.
 pub(crate) fn fault_of(message: &Message, error: TsigError) -> TsigFault
     ensures { result ≡ said_of error (found message.now) }
 {
@@ -97,7 +97,7 @@ fn said_by(error: TsigError, given: Option<Signed<'_>>) -> TsigFault
     }
 }
 
-/// What a TSIG says, where it says an error, and else this one.
+/// What a TSIG says, if it says an error, and else this one.
 fn by_error(error: TsigError, signed: &Signed<'_>) -> TsigFault
     ensures { result ≡ by_error error signed.now }
 {

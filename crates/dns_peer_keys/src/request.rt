@@ -5,7 +5,7 @@ ghost use Rattle.dns_peer_keys.specs.Exchanges.{GivesSigned, tsig_time};
 
 use dns_message::{Message, number_at};
 use dns_name::OutOfMemory;
-use dns_tsig::{Key, Mac, Stamp, sign};
+use dns_tsig::{Key, Mac, TsigFields, sign};
 use std::alloc::Global;
 
 /// How many seconds the clocks of both sides may differ (RFC 8945, section 10).
@@ -32,7 +32,7 @@ pub struct SignedRequest {
     pub mac: Mac,
 }
 
-/// A request, signed under a key at a time in seconds since 1970; none where it states 65,535 additional records, so that no TSIG can
+/// A request, signed under a key at a time in seconds since 1970; none if it states 65,535 additional records, so that no TSIG can
 /// be counted.
 pub fn sign_request(
     alloc: Global,
@@ -45,7 +45,7 @@ pub fn sign_request(
     if number_at(request.as_slice(), 10) == MOST_RECORDS {
         return Ok(None);
     }
-    let stamp = Stamp {
+    let stamp = TsigFields {
         time: tsig_time(secs),
         fudge: FUDGE,
         error: 0,

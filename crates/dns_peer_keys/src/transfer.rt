@@ -18,7 +18,7 @@ use dns_tsig::{IncomingStream, Key, Mac};
 use std::marker::Model;
 use std::sync::Arc;
 
-/// The messages of a transfer as they come, behind the MAC of its request (RFC 8945, section 5.3.1). Each signed one has the whole MAC.
+/// The messages of a transfer as they come, after the MAC of its request (RFC 8945, section 5.3.1). Each signed one has the whole MAC.
 #[derive(Drop)]
 pub struct TransferReplies {
     key: Arc<Key>,
