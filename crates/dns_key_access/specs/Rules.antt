@@ -7,8 +7,8 @@ use Rattle.dns_config.specs.declared.peer.Peer.{Peer}
 use Rattle.dns_tsig.specs.Keys.{KeyParts}
 use Rattle.dns_peer_keys.specs.PeerKeys.{key_named}
 use Rattle.dns_key_access.specs.declared.access.Access.{Access}
-use Rattle.dns_key_access.specs.declared.fault.RuleFault.{RuleFault}
-use Rattle.dns_key_access.specs.declared.fault.RuleFault.TheVariants.{UnknownKey, OutOfMemory}
+use Rattle.dns_key_access.specs.declared.fault.RuleError.{RuleError}
+use Rattle.dns_key_access.specs.declared.fault.RuleError.TheVariants.{UnknownKey, OutOfMemory}
 
 -- the place of the key that is named, or that none is; nothing if no key has the name
 abbrev pub place_in : List KeyParts → Option KeyName → Option (Option ℕ)
@@ -32,6 +32,6 @@ abbrev pub AreAccesses : List KeyParts → List AllowedNetwork → List Access �
 AreAccesses keys rules made = map (access_in keys) rules ≡ map Some made
 
 -- a rule names a key that isn't there, unless memory ran out
-abbrev pub HasRuleFault : List KeyParts → List AllowedNetwork → RuleFault → Type 0
-HasRuleFault keys rules (UnknownKey n) = (r : AllowedNetwork) × (slice_get rules n ≡ Some r) × (access_in keys r ≡ None)
-HasRuleFault keys rules OutOfMemory = Unit {0}
+abbrev pub HasRuleError : List KeyParts → List AllowedNetwork → RuleError → Type 0
+HasRuleError keys rules (UnknownKey n) = (r : AllowedNetwork) × (slice_get rules n ≡ Some r) × (access_in keys r ≡ None)
+HasRuleError keys rules OutOfMemory = Unit {0}

@@ -2,7 +2,7 @@
 
 /// Why the rules of a configuration aren't made.
 #[derive(Clone, Copy)]
-pub enum RuleFault {
+pub enum RuleError {
     /// The rule at this place names a key that isn't there.
     UnknownKey(usize),
     OutOfMemory,

@@ -3,7 +3,7 @@
 //!
 //! - `Access` permits a network, and wants a key of its requests where it names one. `ZoneAccess` are those of a zone.
 //! - `KeyAccess` are the zones whose transfers or NOTIFYs want a key. `zone_access` and `peer_access` make what is permitted of a
-//!   zone of its configuration, and `wants_key` says whether a key is wanted at all. `RuleFault` says which rule isn't made.
+//!   zone of its configuration, and `wants_key` says whether a key is wanted at all. `RuleError` says which rule isn't made.
 //! - `KeyAccessSvc` is a layer round a service. Its requests have the place of the key that they were verified under as their
 //!   metadata, as TsigMiddlewareSvc of dns_signing tells it. Those of the service inside have none.
 //!
@@ -37,7 +37,7 @@ mod layer;
 mod rules;
 
 pub use access::{Access, KeyAccess, ZoneAccess};
-pub use fault::RuleFault;
+pub use fault::RuleError;
 pub use laws::{wanted_keys_are_judged, without_rules_all_is_as_before};
 pub use layer::{AccessStream, KeyAccessSvc};
 pub use rules::{peer_access, wants_key, zone_access};

@@ -2,10 +2,10 @@
 
 ghost use Rattle.std.specs.Prelude.{◌≡◌, IfErr, IfOk, Option, is_some};
 ghost use Rattle.std.specs.List.{list_any};
-ghost use Rattle.dns_key_access.specs.Rules.{AreAccesses, HasRuleFault, access_in, peer_access, place_in, wants_key};
+ghost use Rattle.dns_key_access.specs.Rules.{AreAccesses, HasRuleError, access_in, peer_access, place_in, wants_key};
 
 use crate::access::Access;
-use crate::fault::RuleFault;
+use crate::fault::RuleError;
 use dns_authority::Network;
 use dns_config::{AllowedNetwork, KeyName, Peer};
 use dns_peer_keys::PeerKeys;
@@ -73,19 +73,19 @@ pub fn zone_access(
     alloc: Global,
     keys: &PeerKeys,
     rules: &[AllowedNetwork],
-) -> Result<Vec<Access>, RuleFault>
+) -> Result<Vec<Access>, RuleError>
     ensures ok { IfOk result (λ made. AreAccesses keys.now rules.now made.items) }
-    ensures fault { IfErr result (HasRuleFault keys.now rules.now) }
+    ensures fault { IfErr result (HasRuleError keys.now rules.now) }
 {
     let mut made = Vec::new(alloc);
     'rules: for place in 0..rules.len() {
         match access_in(keys, &rules[place]) {
             Some(access) => {
                 if made.push(access).is_err() {
-                    return Err(RuleFault::OutOfMemory);
+                    return Err(RuleError::OutOfMemory);
                 }
             }
-            None => return Err(RuleFault::UnknownKey(place)),
+            None => return Err(RuleError::UnknownKey(place)),
         }
     }
     Ok(made)

@@ -4,8 +4,8 @@ use Rattle.dns_hmac.specs.declared.algorithm.Algorithm.{Algorithm}
 use Rattle.dns_name.specs.Canonical.{same_name}
 use Rattle.dns_tsig.specs.Keys.{KeyParts}
 use Rattle.dns_tsig.specs.Secrets.{key_written}
-use Rattle.dns_peer_keys.specs.declared.fault.KeyFault.{KeyFault}
-use Rattle.dns_peer_keys.specs.declared.fault.KeyFault.TheVariants.{Twice, Empty, NotBase64, OutOfMemory}
+use Rattle.dns_peer_keys.specs.declared.fault.AddKeyError.{AddKeyError}
+use Rattle.dns_peer_keys.specs.declared.fault.AddKeyError.TheVariants.{Twice, Empty, NotBase64, OutOfMemory}
 
 -- the first key of a name, with its place among keys whose first has this one
 abbrev pub key_named_from : ℕ → List (List ℕ) → List KeyParts → Option (ℕ × KeyParts)
@@ -24,8 +24,8 @@ pub record AddsKey (name : List (List ℕ)) (a : Algorithm) (text : List ℕ) (b
   pub added : after ≡ before ++ key ∷ []
 
 -- why a key isn't added
-abbrev pub HasKeyFault : List KeyParts → List (List ℕ) → Algorithm → List ℕ → KeyFault → Type 0
-HasKeyFault keys name a text Twice = IsSome (key_named name keys)
-HasKeyFault keys name a text Empty = text ≡ []
-HasKeyFault keys name a text NotBase64 = key_written name a text ≡ None
-HasKeyFault keys name a text OutOfMemory = Unit {0}
+abbrev pub HasAddKeyError : List KeyParts → List (List ℕ) → Algorithm → List ℕ → AddKeyError → Type 0
+HasAddKeyError keys name a text Twice = IsSome (key_named name keys)
+HasAddKeyError keys name a text Empty = text ≡ []
+HasAddKeyError keys name a text NotBase64 = key_written name a text ≡ None
+HasAddKeyError keys name a text OutOfMemory = Unit {0}

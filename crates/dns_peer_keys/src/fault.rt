@@ -9,7 +9,7 @@ use std::fmt;
 
 /// Why a key isn't made.
 #[derive(Clone, Copy, Debug)]
-pub enum KeyFault {
+pub enum AddKeyError {
     /// Another key has its name.
     Twice,
     /// Its secret is empty.
@@ -19,22 +19,22 @@ pub enum KeyFault {
     OutOfMemory,
 }
 
-impl fmt::Display for KeyFault {
+impl fmt::Display for AddKeyError {
     fn fmt<W: fmt::Write>(&self, f: &mut fmt::Formatter<W>) -> fmt::Result {
         f.write_str(match self {
-            KeyFault::Twice => "another key has its name",
-            KeyFault::Empty => "its secret is empty",
-            KeyFault::NotBase64 => "its secret isn't base64",
-            KeyFault::OutOfMemory => "out of memory",
+            AddKeyError::Twice => "another key has its name",
+            AddKeyError::Empty => "its secret is empty",
+            AddKeyError::NotBase64 => "its secret isn't base64",
+            AddKeyError::OutOfMemory => "out of memory",
         })
     }
 }
 
-impl Error for KeyFault {}
+impl Error for AddKeyError {}
 
 /// Why a reply to a signed request isn't taken.
 #[derive(Clone, Copy, Debug)]
-pub enum TsigFault {
+pub enum SignedReplyError {
     /// It has no TSIG.
     Unsigned,
     /// It says an error in its TSIG (RFC 8945, section 3).
@@ -44,13 +44,13 @@ pub enum TsigFault {
     OutOfMemory,
 }
 
-impl From<OutOfMemory> for TsigFault {
-    ghost use Rattle.dns_peer_keys.specs.declared.fault.TsigFault.TheVariants.{OutOfMemory as NoMemory};
+impl From<OutOfMemory> for SignedReplyError {
+    ghost use Rattle.dns_peer_keys.specs.declared.fault.SignedReplyError.TheVariants.{OutOfMemory as NoMemory};
 
     ghost from_gives = { λ _ fault. fault ≡ NoMemory };
 
-    fn from(_error: OutOfMemory) -> TsigFault {
-        TsigFault::OutOfMemory
+    fn from(_error: OutOfMemory) -> SignedReplyError {
+        SignedReplyError::OutOfMemory
     }
 }
 
@@ -76,18 +76,18 @@ fn write_refusal<W: fmt::Write>(error: u16, f: &mut fmt::Formatter<W>) -> fmt::R
     }
 }
 
-impl fmt::Display for TsigFault {
+impl fmt::Display for SignedReplyError {
     fn fmt<W: fmt::Write>(&self, f: &mut fmt::Formatter<W>) -> fmt::Result {
         match self {
-            TsigFault::Unsigned => f.write_str("the reply isn't signed"),
-            TsigFault::Refused(error) => write_refusal(*error, f),
-            TsigFault::NotVerified(error) => {
+            SignedReplyError::Unsigned => f.write_str("the reply isn't signed"),
+            SignedReplyError::Refused(error) => write_refusal(*error, f),
+            SignedReplyError::NotVerified(error) => {
                 let said = error_text(*error);
                 write!(f, "the reply doesn't verify: {said}")
             }
-            TsigFault::OutOfMemory => f.write_str("out of memory"),
+            SignedReplyError::OutOfMemory => f.write_str("out of memory"),
         }
     }
 }
 
-impl Error for TsigFault {}
+impl Error for SignedReplyError {}

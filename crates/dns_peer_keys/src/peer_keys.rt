@@ -5,9 +5,9 @@ ghost use Rattle.std.specs.Arc.{arc_value};
 ghost use Rattle.dns_name.specs.Canonical.{same_name};
 ghost use Rattle.dns_tsig.specs.Keys.{KeyParts};
 ghost use Rattle.dns_tsig.specs.Secrets.{key_written};
-ghost use Rattle.dns_peer_keys.specs.PeerKeys.{AddsKey, HasKeyFault, key_named};
+ghost use Rattle.dns_peer_keys.specs.PeerKeys.{AddsKey, HasAddKeyError, key_named};
 
-use crate::fault::KeyFault;
+use crate::fault::AddKeyError;
 use dns_name::{Name, OutOfMemory, names_are_ordered};
 use dns_tsig::{Algorithm, Key, KeyError, KeyStore};
 use std::alloc::Global;
@@ -36,17 +36,17 @@ fn key_of(
     name: Name,
     algorithm: Algorithm,
     text: &[u8],
-) -> Result<Arc<Key>, KeyFault>
+) -> Result<Arc<Key>, AddKeyError>
     ensures ok { IfOk result (λ k. key_written name algorithm text.now ≡ Some (arc_value k)) }
-    ensures fault { IfErr result (λ f. (keys : List KeyParts) → HasKeyFault keys name algorithm text.now f) }
+    ensures fault { IfErr result (λ f. (keys : List KeyParts) → HasAddKeyError keys name algorithm text.now f) }
 {
     match Key::from_base64(alloc, name, algorithm, text) {
         Ok(key) => match Arc::new(alloc, key) {
             Ok(key) => Ok(key),
-            Err(_) => Err(KeyFault::OutOfMemory),
+            Err(_) => Err(AddKeyError::OutOfMemory),
         },
-        Err(KeyError::NotBase64) => Err(KeyFault::NotBase64),
-        Err(KeyError::OutOfMemory) => Err(KeyFault::OutOfMemory),
+        Err(KeyError::NotBase64) => Err(AddKeyError::NotBase64),
+        Err(KeyError::OutOfMemory) => Err(AddKeyError::OutOfMemory),
     }
 }
 
@@ -67,16 +67,16 @@ impl PeerKeys {
         name: Name,
         algorithm: Algorithm,
         text: &[u8],
-    ) -> Result<(), KeyFault>
+    ) -> Result<(), AddKeyError>
         ensures ok { OnOk result (AddsKey name algorithm text.now self.old self.new) }
-        ensures fault { IfErr result (HasKeyFault self.old name algorithm text.now) }
+        ensures fault { IfErr result (HasAddKeyError self.old name algorithm text.now) }
         ensures err { OnErr result (self.new ≡ self.old) }
     {
         if self.get(&name).is_some() {
-            return Err(KeyFault::Twice);
+            return Err(AddKeyError::Twice);
         }
         if text.is_empty() {
-            return Err(KeyFault::Empty);
+            return Err(AddKeyError::Empty);
         }
         let key = match key_of(alloc, name, algorithm, text) {
             Ok(key) => key,
@@ -84,7 +84,7 @@ impl PeerKeys {
         };
         match self.keys.push(key) {
             Ok(()) => Ok(()),
-            Err(_) => Err(KeyFault::OutOfMemory),
+            Err(_) => Err(AddKeyError::OutOfMemory),
         }
     }
 

@@ -9,7 +9,7 @@ ghost use Rattle.dns_tsig.specs.Streams.{Chain, chain_behind, is_whole, taken};
 ghost use Rattle.dns_peer_keys.specs.Exchanges.{tsig_time};
 ghost use Rattle.dns_peer_keys.specs.TransferChains.{IsRefusedAs};
 
-use crate::fault::TsigFault;
+use crate::fault::SignedReplyError;
 use crate::reply::fault_of;
 use crate::request::tsig_time;
 use dns_message::Message;
@@ -46,7 +46,7 @@ impl TransferReplies {
     }
 
     /// Takes the next message, at a time in seconds since 1970. After a refusal nothing more is taken.
-    pub fn take(&mut self, secs: u64, message: &Message) -> Result<(), TsigFault>
+    pub fn take(&mut self, secs: u64, message: &Message) -> Result<(), SignedReplyError>
         ensures key { self.new.key ≡ self.old.key }
         ensures ok { let k = self.old.key in OnOk result
             ((c : Chain) → Follows k c self.old.stream
