@@ -62,7 +62,7 @@ fn bare(alloc: Global, signed: &Signed<'_>) -> Result<Message, OutOfMemory>
 }
 
 /// Why a message of a transfer isn't taken that was refused with this error: what its TSIG says, where that says an error.
-pub fn fault_of(message: &Message, error: TsigError) -> TsigFault
+pub(crate) fn fault_of(message: &Message, error: TsigError) -> TsigFault
     ensures { result ≡ said_of error (found message.now) }
 {
     match find(message.as_slice()) {

@@ -4,10 +4,12 @@ use anyhow::bail;
 use dns_base::AdditionalBuilder;
 use dns_message::Message;
 use dns_name::SocketAddr;
+use dns_peer_keys::{Key, Mac, sign_request};
 use dns_socket_addr::to_std;
 use std::alloc::Global;
 use std::io::{Read, Write};
 use std::net::{Net, TcpStream};
+use std::rt::Clock;
 use std::time::Duration;
 
 /// How long a connection, a read or a write may take.
@@ -23,11 +25,46 @@ pub(crate) fn connect<N: Net>(net: &N, primary: SocketAddr) -> anyhow::Result<Tc
     Ok(stream)
 }
 
+/// The seconds since 1970.
+pub(crate) fn seconds<R: Clock>(rt: &R) -> anyhow::Result<u64> {
+    Ok(rt.since_1970()?.as_secs())
+}
+
 /// Sends a message.
 pub(crate) fn send<S: Write>(stream: &mut S, message: AdditionalBuilder) -> anyhow::Result<()> {
     let target = message.finish();
     stream.write_all(target.as_stream_slice())?;
     Ok(())
+}
+
+/// Sends octets behind their number (RFC 1035, section 4.2.2).
+fn send_octets<S: Write>(stream: &mut S, octets: &[u8]) -> anyhow::Result<()> {
+    match u16::try_from(octets.len()) {
+        Ok(count) => {
+            stream.write_all(&count.to_be_bytes())?;
+            stream.write_all(octets)?;
+            Ok(())
+        }
+        Err(_) => bail!("a message is too long"),
+    }
+}
+
+/// Sends a message that is signed under a key, and gives its MAC.
+pub(crate) fn send_signed<R: Clock, S: Write>(
+    rt: &R,
+    alloc: Global,
+    stream: &mut S,
+    key: &Key,
+    message: AdditionalBuilder,
+) -> anyhow::Result<Mac> {
+    let secs = seconds(rt)?;
+    match sign_request(alloc, key, secs, &message.into_message())? {
+        Some(signed) => {
+            send_octets(stream, signed.octets.as_slice())?;
+            Ok(signed.mac)
+        }
+        None => bail!("no TSIG has room"),
+    }
 }
 
 /// Receives a message.
