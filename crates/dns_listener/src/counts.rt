@@ -52,7 +52,7 @@ fn push_replies(text: &mut String, counts: &ReplyCounts) -> Result<(), AllocErro
     Ok(())
 }
 
-/// Logs what became of a question for a transfer.
+/// Logs what became of a question for a transfer, or that a NOTIFY was refused.
 fn log_note<R: Log>(rt: &R, note: &TransferNote) {
     let client = SocketAddrText(note.client);
     match note.news {
@@ -60,6 +60,9 @@ fn log_note<R: Log>(rt: &R, note: &TransferNote) {
         TransferNews::Ended => info!(rt; "{}: a transfer to {client} has ended", note.apex),
         TransferNews::Refused(code) => {
             warn!(rt; "{}: a transfer to {client} is refused with code {}", note.apex, code.to_int())
+        }
+        TransferNews::NotifyRefused(code) => {
+            warn!(rt; "{}: a NOTIFY from {client} is refused with code {}", note.apex, code.to_int())
         }
     }
 }

@@ -178,12 +178,7 @@ impl PendingNotify {
     }
 
     /// The response code of octets that are its answer.
-    fn code_of(
-        &mut self,
-        alloc: Global,
-        now: Moment,
-        octets: &[u8],
-    ) -> anyhow::Result<Option<u8>> {
+    fn code_of(&mut self, alloc: Global, now: Moment, octets: &[u8]) -> anyhow::Result<Option<u8>> {
         let Some(octets) = self.taken(alloc, now.secs, octets)? else {
             return Ok(None);
         };

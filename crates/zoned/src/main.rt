@@ -1,6 +1,6 @@
 //! A name server: serves the zones of a configuration, judges a configuration, or speaks to a server that runs.
 //!
-//! - `words` has the words of the command line, `load` reads configurations and zones, `control` and `ctl` are the two ends of
+//! - `words` has the words of the command line, `load` reads configurations and zones, `keys` reads keys, `control` and `ctl` are the two ends of
 //!   the control socket.
 //! - `server` goes from generation to generation: it looks every 50 ms whether something is asked, and shuts the listeners
 //!   down where something else is to be served. `served` is what is served at a time.
@@ -31,6 +31,7 @@ ghost use Rattle.clap.specs.declared.error.kind.ErrorKind.TheVariants.{DisplayHe
 mod configuration;
 mod control;
 mod ctl;
+mod keys;
 mod load;
 mod served;
 mod server;
