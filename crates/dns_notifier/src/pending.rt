@@ -4,7 +4,7 @@ use anyhow::bail;
 use dns_forward::{Asking, Ticked};
 use dns_message::Message;
 use dns_name::{Name, SocketAddr};
-use dns_peer_keys::{Key, Mac, TsigFault, sign_request, verified_reply};
+use dns_peer_keys::{Key, Mac, SignedRequest, TsigFault, sign_request, verified_reply};
 use dns_secondary::zone_notify;
 use dns_socket_addr::{to_std, unspecified_like};
 use std::alloc::Global;
@@ -90,9 +90,9 @@ impl Signing {
     fn sign(&mut self, alloc: Global, secs: u64, octets: &[u8]) -> anyhow::Result<Vec<u8>> {
         let message = message_of(alloc, octets)?;
         match sign_request(alloc, &self.key, secs, &message)? {
-            Some(signed) => {
-                self.mac = Some(signed.mac);
-                Ok(signed.octets)
+            Some(SignedRequest { octets, mac }) => {
+                self.mac = Some(mac);
+                Ok(octets)
             }
             None => bail!("no TSIG has room"),
         }

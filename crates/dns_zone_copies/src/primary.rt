@@ -4,7 +4,7 @@ use anyhow::bail;
 use dns_base::AdditionalBuilder;
 use dns_message::Message;
 use dns_name::SocketAddr;
-use dns_peer_keys::{Key, Mac, sign_request};
+use dns_peer_keys::{Key, Mac, SignedRequest, sign_request};
 use dns_socket_addr::to_std;
 use std::alloc::Global;
 use std::io::{Read, Write};
@@ -59,9 +59,9 @@ pub(crate) fn send_signed<R: Clock, S: Write>(
 ) -> anyhow::Result<Mac> {
     let secs = seconds(rt)?;
     match sign_request(alloc, key, secs, &message.into_message())? {
-        Some(signed) => {
-            send_octets(stream, signed.octets.as_slice())?;
-            Ok(signed.mac)
+        Some(SignedRequest { octets, mac }) => {
+            send_octets(stream, octets.as_slice())?;
+            Ok(mac)
         }
         None => bail!("no TSIG has room"),
     }
