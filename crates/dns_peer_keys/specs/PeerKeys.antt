@@ -2,8 +2,6 @@
 use Rattle.std.specs.Prelude.{ℕ, ◌≡◌, ◌≢◌, ◌+◌, List, [], ◌∷◌, ◌++◌, Option, Some, None, IsSome, if◌then◌else◌}
 use Rattle.dns_hmac.specs.declared.algorithm.Algorithm.{Algorithm}
 use Rattle.dns_name.specs.Canonical.{same_name}
-use Rattle.dns_tsig.specs.declared.error.KeyError.{KeyError}
-use Rattle.dns_tsig.specs.declared.error.KeyError.TheVariants as Error
 use Rattle.dns_tsig.specs.Keys.{KeyParts}
 use Rattle.dns_tsig.specs.Secrets.{key_written}
 use Rattle.dns_peer_keys.specs.declared.fault.KeyFault.{KeyFault}
@@ -17,10 +15,6 @@ key_named_from n name (k ∷ keys) = if same_name name k.name then Some (n, k) e
 abbrev pub key_named : List (List ℕ) → List KeyParts → Option (ℕ × KeyParts)
 key_named name keys = key_named_from 0 name keys
 
-abbrev pub fault_made : KeyError → KeyFault
-fault_made Error.NotBase64 = NotBase64
-fault_made Error.OutOfMemory = OutOfMemory
-
 -- a key whose secret a text writes, which isn't empty, is behind the others, none of which has its name
 pub record AddsKey (name : List (List ℕ)) (a : Algorithm) (text : List ℕ) (before after : List KeyParts) : Type 0 where
   pub alone : key_named name before ≡ None
@@ -28,13 +22,6 @@ pub record AddsKey (name : List (List ℕ)) (a : Algorithm) (text : List ℕ) (b
   pub key : KeyParts
   pub written : key_written name a text ≡ Some key
   pub added : after ≡ before ++ key ∷ []
-
--- why a text writes no key
-abbrev pub IsUnwritten : List (List ℕ) → Algorithm → List ℕ → KeyFault → Type 0
-IsUnwritten name a text Twice = ⊥
-IsUnwritten name a text Empty = ⊥
-IsUnwritten name a text NotBase64 = key_written name a text ≡ None
-IsUnwritten name a text OutOfMemory = Unit {0}
 
 -- why a key isn't added
 abbrev pub HasKeyFault : List KeyParts → List (List ℕ) → Algorithm → List ℕ → KeyFault → Type 0

@@ -3,7 +3,7 @@
 ghost use Rattle.std.specs.Prelude.{◌≡◌};
 
 use dns_name::OutOfMemory;
-use dns_tsig::{KeyError, TsigError};
+use dns_tsig::TsigError;
 use std::alloc::AllocError;
 use std::error::Error;
 use std::fmt;
@@ -18,19 +18,6 @@ pub enum KeyFault {
     /// Its secret isn't base64 (RFC 4648, section 4).
     NotBase64,
     OutOfMemory,
-}
-
-impl From<KeyError> for KeyFault {
-    ghost use Rattle.dns_peer_keys.specs.PeerKeys.{fault_made};
-
-    ghost from_gives = { λ error fault. fault ≡ fault_made error };
-
-    fn from(error: KeyError) -> KeyFault {
-        match error {
-            KeyError::NotBase64 => KeyFault::NotBase64,
-            KeyError::OutOfMemory => KeyFault::OutOfMemory,
-        }
-    }
 }
 
 impl From<AllocError> for KeyFault {

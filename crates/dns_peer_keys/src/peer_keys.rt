@@ -1,14 +1,15 @@
 //! The keys of a configuration.
 
-ghost use Rattle.std.specs.Prelude.{◌≡◌, [], IfErr, IfOk, OnErr, OnOk, Some, drop, map, option_map, take};
+ghost use Rattle.std.specs.Prelude.{◌≡◌, List, [], IfErr, IfOk, OnErr, OnOk, Some, map, option_map};
 ghost use Rattle.std.specs.Arc.{arc_value};
 ghost use Rattle.dns_name.specs.Canonical.{same_name};
+ghost use Rattle.dns_tsig.specs.Keys.{KeyParts};
 ghost use Rattle.dns_tsig.specs.Secrets.{key_written};
-ghost use Rattle.dns_peer_keys.specs.PeerKeys.{AddsKey, HasKeyFault, IsUnwritten, key_named};
+ghost use Rattle.dns_peer_keys.specs.PeerKeys.{AddsKey, HasKeyFault, key_named};
 
 use crate::fault::KeyFault;
 use dns_name::{Name, OutOfMemory, names_are_ordered};
-use dns_tsig::{Algorithm, Key, KeyStore};
+use dns_tsig::{Algorithm, Key, KeyError, KeyStore};
 use std::alloc::Global;
 use std::marker::Model;
 use std::sync::Arc;
@@ -37,11 +38,13 @@ fn key_of(
     text: &[u8],
 ) -> Result<Arc<Key>, KeyFault>
     ensures ok { IfOk result (λ k. key_written name algorithm text.now ≡ Some (arc_value k)) }
-    ensures fault { IfErr result (IsUnwritten name algorithm text.now) }
+    ensures fault { IfErr result (λ f. (keys : List KeyParts) → HasKeyFault keys name algorithm text.now f) }
 {
-    let key = Key::from_base64(alloc, name, algorithm, text)?;
-    let key = Arc::new(alloc, key)?;
-    Ok(key)
+    match Key::from_base64(alloc, name, algorithm, text) {
+        Ok(key) => Ok(Arc::new(alloc, key)?),
+        Err(KeyError::NotBase64) => Err(KeyFault::NotBase64),
+        Err(KeyError::OutOfMemory) => Err(KeyFault::OutOfMemory),
+    }
 }
 
 impl PeerKeys {

@@ -1,8 +1,8 @@
 //! Replies to requests that were signed.
 
-ghost use Rattle.std.specs.Prelude.{◌≡◌, ◌≤◌, IfErr, IfOk, Ok, Some, length};
+ghost use Rattle.std.specs.Prelude.{◌≡◌, IfErr, IfOk, Ok};
 ghost use Rattle.dns_hmac.specs.Macs.{octets_of};
-ghost use Rattle.dns_tsig.specs.Found.{Signed as SignedParts, found};
+ghost use Rattle.dns_tsig.specs.Found.{found};
 ghost use Rattle.dns_peer_keys.specs.Exchanges.{HasTsigFault, by_error, reply_of, said_of, verified};
 
 use crate::fault::TsigFault;
@@ -24,9 +24,25 @@ pub fn verified_reply(
     ensures fault { IfErr result (HasTsigFault (reply_of key.now (octets_of mac.now) secs (found reply.now))) }
 {
     match find(reply.as_slice()) {
-        Ok(Some(signed)) => verified(alloc, key, mac, secs, &signed),
-        Ok(None) => Err(TsigFault::Unsigned),
+        Ok(given) => given_reply(alloc, key, mac, secs, given),
         Err(error) => Err(TsigFault::NotVerified(error)),
+    }
+}
+
+/// The message that a reply is without its TSIG, if it has one.
+fn given_reply(
+    alloc: Global,
+    key: &Key,
+    mac: &Mac,
+    secs: u64,
+    given: Option<Signed<'_>>,
+) -> Result<Message, TsigFault>
+    ensures ok { IfOk result (λ m. reply_of key.now (octets_of mac.now) secs (Ok given.entry) ≡ Ok m) }
+    ensures fault { IfErr result (HasTsigFault (reply_of key.now (octets_of mac.now) secs (Ok given.entry))) }
+{
+    match given {
+        Some(signed) => verified(alloc, key, mac, secs, &signed),
+        None => Err(TsigFault::Unsigned),
     }
 }
 
@@ -66,9 +82,18 @@ pub(crate) fn fault_of(message: &Message, error: TsigError) -> TsigFault
     ensures { result ≡ said_of error (found message.now) }
 {
     match find(message.as_slice()) {
-        Ok(Some(signed)) => by_error(error, &signed),
-        Ok(None) => TsigFault::Unsigned,
+        Ok(given) => said_by(error, given),
         Err(error) => TsigFault::NotVerified(error),
+    }
+}
+
+/// What a message says that has a TSIG or none.
+fn said_by(error: TsigError, given: Option<Signed<'_>>) -> TsigFault
+    ensures { result ≡ said_of error (Ok given.entry) }
+{
+    match given {
+        Some(signed) => by_error(error, &signed),
+        None => TsigFault::Unsigned,
     }
 }
 
