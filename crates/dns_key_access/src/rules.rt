@@ -80,7 +80,11 @@ pub fn zone_access(
     let mut made = Vec::new(alloc);
     'rules: for place in 0..rules.len() {
         match access_in(keys, &rules[place]) {
-            Some(access) => made.push(access)?,
+            Some(access) => {
+                if made.push(access).is_err() {
+                    return Err(RuleFault::OutOfMemory);
+                }
+            }
             None => return Err(RuleFault::UnknownKey(place)),
         }
     }

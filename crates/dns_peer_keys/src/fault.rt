@@ -4,7 +4,6 @@ ghost use Rattle.std.specs.Prelude.{◌≡◌};
 
 use dns_name::OutOfMemory;
 use dns_tsig::TsigError;
-use std::alloc::AllocError;
 use std::error::Error;
 use std::fmt;
 
@@ -18,16 +17,6 @@ pub enum KeyFault {
     /// Its secret isn't base64 (RFC 4648, section 4).
     NotBase64,
     OutOfMemory,
-}
-
-impl From<AllocError> for KeyFault {
-    ghost use Rattle.dns_peer_keys.specs.declared.fault.KeyFault.TheVariants.{OutOfMemory as NoMemory};
-
-    ghost from_gives = { λ _ fault. fault ≡ NoMemory };
-
-    fn from(_error: AllocError) -> KeyFault {
-        KeyFault::OutOfMemory
-    }
 }
 
 impl fmt::Display for KeyFault {

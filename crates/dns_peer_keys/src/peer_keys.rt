@@ -41,7 +41,10 @@ fn key_of(
     ensures fault { IfErr result (λ f. (keys : List KeyParts) → HasKeyFault keys name algorithm text.now f) }
 {
     match Key::from_base64(alloc, name, algorithm, text) {
-        Ok(key) => Ok(Arc::new(alloc, key)?),
+        Ok(key) => match Arc::new(alloc, key) {
+            Ok(key) => Ok(key),
+            Err(_) => Err(KeyFault::OutOfMemory),
+        },
         Err(KeyError::NotBase64) => Err(KeyFault::NotBase64),
         Err(KeyError::OutOfMemory) => Err(KeyFault::OutOfMemory),
     }
@@ -76,8 +79,10 @@ impl PeerKeys {
             return Err(KeyFault::Empty);
         }
         let key = key_of(alloc, name, algorithm, text)?;
-        self.keys.push(key)?;
-        Ok(())
+        match self.keys.push(key) {
+            Ok(()) => Ok(()),
+            Err(_) => Err(KeyFault::OutOfMemory),
+        }
     }
 
     /// The key of a name, with its place from 0; none where no key has it.
