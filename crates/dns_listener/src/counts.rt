@@ -52,7 +52,7 @@ fn push_replies(text: &mut String, counts: &ReplyCounts) -> Result<(), AllocErro
     Ok(())
 }
 
-/// Logs what became of a question for a transfer, or that a NOTIFY was refused.
+/// Logs what became of a question for a transfer, or that a NOTIFY or an SOA query was refused.
 fn log_note<R: Log>(rt: &R, note: &TransferNote) {
     let client = SocketAddrText(note.client);
     match note.news {
@@ -63,6 +63,9 @@ fn log_note<R: Log>(rt: &R, note: &TransferNote) {
         }
         TransferNews::NotifyRefused(code) => {
             warn!(rt; "{}: a NOTIFY from {client} is refused with code {}", note.apex, code.to_int())
+        }
+        TransferNews::SoaRefused => {
+            warn!(rt; "{}: an SOA query from {client} isn't taken: its signature is wrong", note.apex)
         }
     }
 }

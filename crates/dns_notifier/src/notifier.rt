@@ -7,7 +7,7 @@ use anyhow::bail;
 use dns_config::{Config, Peer, ZoneEntry};
 use dns_generation::ZoneSummary;
 use dns_name::Name;
-use dns_peer_keys::{Key, PeerKeys, TsigFault};
+use dns_peer_keys::{Key, PeerKeys};
 use dns_socket_addr::SocketAddrText;
 use log::{Log, error, info};
 use std::alloc::Global;
@@ -152,18 +152,17 @@ impl Notifier {
                     let to = SocketAddrText(notify.to);
                     info!(rt; "{}: NOTIFY was answered by {to} with code {code}", notify.apex);
                 }
-                NotifyState::GaveUp(fault) => log_given_up(rt, &notify, fault),
+                NotifyState::NotTaken(fault) => {
+                    let to = SocketAddrText(notify.to);
+                    error!(rt; "{}: NOTIFY to {to}: {fault}", notify.apex);
+                    self.pending.push(notify)?;
+                }
+                NotifyState::GaveUp => {
+                    let to = SocketAddrText(notify.to);
+                    error!(rt; "{}: NOTIFY wasn't answered by {to}", notify.apex);
+                }
             }
         }
         Ok(())
-    }
-}
-
-/// Logs that a NOTIFY was given up.
-fn log_given_up<R: Log>(rt: &R, notify: &PendingNotify, fault: Option<TsigFault>) {
-    let to = SocketAddrText(notify.to);
-    match fault {
-        Some(fault) => error!(rt; "{}: NOTIFY wasn't answered by {to}: {fault}", notify.apex),
-        None => error!(rt; "{}: NOTIFY wasn't answered by {to}", notify.apex),
     }
 }

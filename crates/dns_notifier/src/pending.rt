@@ -23,7 +23,7 @@ const ANSWER_SIZE: usize = 1_232;
 /// How many octets a message has at least.
 const HEADER_SIZE: usize = 12;
 
-/// The key that a NOTIFY is signed under, the MAC that it was sent with last, and why an answer wasn't taken.
+/// The key that a NOTIFY is signed under, the MAC that it was sent with last, and why an answer wasn't taken that came since.
 #[derive(Drop)]
 struct Signing {
     key: Arc<Key>,
@@ -55,8 +55,10 @@ pub(crate) enum NotifyState {
     Waiting,
     /// It was answered, with this response code.
     Answered(u8),
-    /// It was given up, with what kept an answer from being taken.
-    GaveUp(Option<TsigFault>),
+    /// An answer came that isn't taken. Another one is waited for.
+    NotTaken(TsigFault),
+    /// It was given up.
+    GaveUp,
 }
 
 /// A socket from which an address can be told.
@@ -197,10 +199,10 @@ impl PendingNotify {
         }
     }
 
-    /// Why an answer that came wasn't taken, if one came.
-    fn fault(&self) -> Option<TsigFault> {
-        match &self.signing {
-            Some(signing) => signing.fault,
+    /// Why an answer that came wasn't taken, if one came since this was asked last.
+    fn take_fault(&mut self) -> Option<TsigFault> {
+        match &mut self.signing {
+            Some(signing) => signing.fault.take(),
             None => None,
         }
     }
@@ -210,13 +212,16 @@ impl PendingNotify {
         if let Some(code) = self.hear(alloc, now)? {
             return Ok(NotifyState::Answered(code));
         }
+        if let Some(fault) = self.take_fault() {
+            return Ok(NotifyState::NotTaken(fault));
+        }
         match self.asking.tick(now.millis) {
             Ticked::Nothing => Ok(NotifyState::Waiting),
             Ticked::Send => {
                 self.send(alloc, now.secs)?;
                 Ok(NotifyState::Waiting)
             }
-            Ticked::GaveUp => Ok(NotifyState::GaveUp(self.fault())),
+            Ticked::GaveUp => Ok(NotifyState::GaveUp),
         }
     }
 }

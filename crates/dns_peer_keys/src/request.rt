@@ -1,6 +1,6 @@
 //! Requests that are signed.
 
-ghost use Rattle.std.specs.Prelude.{◌≡◌, IfOk};
+ghost use Rattle.std.specs.Prelude.{◌≡◌, ◌<◌, ◌^◌, IfOk};
 ghost use Rattle.dns_peer_keys.specs.Exchanges.{GivesSigned, tsig_time};
 
 use dns_message::{Message, number_at};
@@ -19,7 +19,8 @@ const MOST_RECORDS: u16 = 65_535;
 
 /// Seconds since 1970, as a TSIG can say them.
 pub(crate) fn tsig_time(secs: u64) -> u64
-    ensures { result ≡ tsig_time secs }
+    ensures value { result ≡ tsig_time secs }
+    ensures fits { result < 2 ^ 48 }
 {
     secs.min(LAST_SECOND)
 }

@@ -15,7 +15,10 @@ const AXFR: u16 = 252;
 /// The type of a question that asks for what has changed in a zone (RFC 1995, section 2).
 const IXFR: u16 = 251;
 
-/// A service whose transfers are noted, and NOTIFYs that are refused.
+/// The type of SOA records (RFC 1035, section 3.2.2).
+const SOA: u16 = 6;
+
+/// A service whose transfers are noted, and NOTIFYs and queries for SOA records that are refused.
 #[derive(Drop)]
 pub struct NotingSvc<R, S> {
     rt: R,
@@ -39,9 +42,11 @@ enum Subject {
     Transfer,
     /// A NOTIFY.
     Notify,
+    /// A query for the SOA record, by which a secondary checks its copy.
+    Soa,
 }
 
-/// A question for a transfer or a NOTIFY, and what of it was noted.
+/// A question that is noted, and what of it was.
 #[derive(Drop)]
 struct Asked {
     subject: Subject,
@@ -73,6 +78,9 @@ fn subject_of<Meta>(request: &Request<Meta>, qtype: u16) -> Option<Subject> {
     if request.transport_ctx().is_non_udp() && asks_transfer(qtype) {
         return Some(Subject::Transfer);
     }
+    if opcode == Opcode::QUERY && qtype == SOA {
+        return Some(Subject::Soa);
+    }
     None
 }
 
@@ -91,7 +99,7 @@ fn asked_zone<Meta>(
 }
 
 impl Asked {
-    /// The question of a request, if it asks for a transfer or is a NOTIFY.
+    /// The question of a request, if something is noted of it.
     fn of<Meta>(
         alloc: Global,
         request: &Request<Meta>,
@@ -136,11 +144,20 @@ impl Asked {
         }
     }
 
+    /// Notes the reply to a query for the SOA record, where that is NOTAUTH.
+    fn hear_soa<R: Wait>(&mut self, rt: &R, alloc: Global, code: Rcode) {
+        self.state = State::Over;
+        if code == Rcode::NOTAUTH {
+            self.note(rt, alloc, TransferNews::SoaRefused);
+        }
+    }
+
     /// Notes the first reply.
     fn hear_first<R: Wait>(&mut self, rt: &R, alloc: Global, code: Rcode) {
         match self.subject {
             Subject::Transfer => self.hear_transfer(rt, alloc, code),
             Subject::Notify => self.hear_notify(rt, alloc, code),
+            Subject::Soa => self.hear_soa(rt, alloc, code),
         }
     }
 
