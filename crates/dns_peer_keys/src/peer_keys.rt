@@ -78,7 +78,10 @@ impl PeerKeys {
         if text.is_empty() {
             return Err(KeyFault::Empty);
         }
-        let key = key_of(alloc, name, algorithm, text)?;
+        let key = match key_of(alloc, name, algorithm, text) {
+            Ok(key) => key,
+            Err(fault) => return Err(fault),
+        };
         match self.keys.push(key) {
             Ok(()) => Ok(()),
             Err(_) => Err(KeyFault::OutOfMemory),
