@@ -1,17 +1,17 @@
 //! The layer.
 
-ghost use Rattle.std.specs.Prelude.{◌≡◌, IfOk, OnErr, Some};
+ghost use Rattle.std.specs.Prelude.{◌≡◌, OnErr};
 ghost use Rattle.std.specs.Arc.{arc_value};
-ghost use Rattle.dns_service.specs.Req.{hint_at_entry, with_metadata};
 ghost use Rattle.dns_service.specs.Transport.{hinted};
 ghost use Rattle.dns_layers.specs.Calls.{AnswersAs, LeavesHint};
+ghost use Rattle.dns_layers.specs.Rewritten.{own_reply};
 ghost use Rattle.dns_signing.specs.ErrorResponse.{error_response};
-ghost use Rattle.dns_signing.specs.Layer.{sole};
-ghost use Rattle.dns_key_access.specs.Layer.{access_answer, access_hint};
+ghost use Rattle.dns_key_access.specs.Layer.{access_answer, access_hint, without_key};
 
 use crate::access::KeyAccess;
-use dns_base::{AdditionalBuilder, OptRcode};
-use dns_service::{CallResult, Now, Once, OutOfMemory, ReplyFuture, Request, Service};
+use dns_base::OptRcode;
+use dns_layers::{of_inner, of_own};
+use dns_service::{Now, Once, OutOfMemory, ReplyFuture, Request, Service};
 use dns_signing::error_response;
 use dns_stream::MiddlewareStream;
 use std::alloc::Global;
@@ -60,45 +60,45 @@ impl<S: Service<()>> Service<Option<usize>> for KeyAccessSvc<S> {
     ) -> Result<Now<AccessStream<S>>, OutOfMemory> {
         match self.access.refusal(request) {
             Some(code) => refuse::<S>(alloc, request, code),
-            None => pass::<S>(alloc, &self.next, request),
+            None => pass(alloc, &self.next, request),
         }
     }
 }
 
-/// The stream of one reply.
-fn sole_reply<S: Service<()>>(reply: AdditionalBuilder) -> Now<AccessStream<S>>
-    ensures { ⟦<Now<AccessStream<S>> as ReplyFuture>⟧.answer result ≡ sole reply.message }
-{
-    Now::new(MiddlewareStream::Result(Once::new(Ok(CallResult::new(reply)))))
-}
-
-/// The reply that refuses a request.
+/// The reply to a request that is refused.
 fn refuse<S: Service<()>>(
     alloc: Global,
     request: &Request<Option<usize>>,
     code: OptRcode,
 ) -> Result<Now<AccessStream<S>>, OutOfMemory>
-    ensures { AnswersAs ⟦<Now<AccessStream<S>> as ReplyFuture>⟧.answer (sole (error_response request.now.octets code)) result }
+    ensures { AnswersAs ⟦<Now<AccessStream<S>> as ReplyFuture>⟧.answer (own_reply (error_response request.now.octets code)) result }
 {
     let reply = error_response(alloc, request.message(), code)?;
-    Ok(sole_reply::<S>(reply))
+    Ok(of_own::<S, (), Once>(reply))
 }
 
-/// The inner replies to a request.
+/// The inner replies to a request, without its key.
+#[tactic(auto, using(crate::proofs::Hints::hint_carried))]
 fn pass<S: Service<()>>(
     alloc: Global,
     next: &S,
     request: &mut Request<Option<usize>>,
 ) -> Result<Now<AccessStream<S>>, OutOfMemory>
     requires { S.can_call next.now }
-    ensures answers { AnswersAs ⟦<Now<AccessStream<S>> as ReplyFuture>⟧.answer (S.answer next.now (with_metadata request.old tt)) result }
-    ensures kept { LeavesHint (S.hint next.now (with_metadata request.old tt)) request.old request.new result }
+    ensures answers { AnswersAs ⟦<Now<AccessStream<S>> as ReplyFuture>⟧.answer (S.answer next.now (without_key request.old)) result }
+    ensures kept { LeavesHint (S.hint next.now (without_key request.old)) request.old request.new result }
     ensures refused { OnErr result (request.new ≡ request.old) }
 {
-    let mut inner = request.try_clone(alloc, ())?;
-    let future = next.call(alloc, &mut inner)?;
-    leave_hint(request, inner.transport_ctx().hint());
-    Ok(Now::new(MiddlewareStream::IdentityFuture(future)))
+    let Ok(mut inner) = request.try_clone(alloc, ()) else {
+        return Err(OutOfMemory);
+    };
+    match next.call(alloc, &mut inner) {
+        Ok(future) => {
+            leave_hint(request, inner.transport_ctx().hint());
+            Ok(of_inner::<S, (), Once, Once>(future))
+        }
+        Err(error) => Err(error),
+    }
 }
 
 /// Leaves a hint in a request.

@@ -5,6 +5,6 @@ use Rattle.dns_key_access.proofs.laws.wanted_keys_are_judged.Goals as goal
 
 pub returns : goal.returns
 returns c = record {
-  transfers = λ answer k z r q h g t. ap (answer_by answer r) (transfer_judged k z r q h g t);
-  notifies = λ answer k z r q h g. ap (answer_by answer r) (notify_judged k z r q h g);
+  transfers = λ answer a z r q k h g t. ap (answer_by answer r k) (transfer_judged a z r q h g t);
+  notifies = λ answer a z r q k h g. ap (answer_by answer r k) (notify_judged a z r q h g);
 }

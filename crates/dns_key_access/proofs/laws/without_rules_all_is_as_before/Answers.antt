@@ -7,4 +7,4 @@ use Rattle.dns_key_access.proofs.Judged.{unjudged}
 use Rattle.dns_key_access.proofs.laws.without_rules_all_is_as_before.Goals as goal
 
 pub returns : goal.returns
-returns c = λ answer k r t n. ap (answer_by answer r) (unjudged k (header_of r.octets).opcode (first_of (questions_of r.octets).0) (asker_of r) t n)
+returns c = λ answer a r k t n. ap (answer_by answer r k) (unjudged a (header_of r.octets).opcode (first_of (questions_of r.octets).0) (asker_of r) t n)
