@@ -28,7 +28,7 @@ pub fn serial_of(summary: &ZoneSummary) -> Option<u32>
 }
 
 /// The moment in milliseconds, and the seconds since 1970.
-fn moment<R: Clock>(rt: &R, millis: u64) -> anyhow::Result<Moment> {
+fn read_moment<R: Clock>(rt: &R, millis: u64) -> anyhow::Result<Moment> {
     let secs = rt.since_1970()?.as_secs();
     Ok(Moment { millis, secs })
 }
@@ -124,7 +124,7 @@ impl Notifier {
         summaries: &[ZoneSummary],
         now: u64,
     ) -> anyhow::Result<()> {
-        let now = moment(rt, now)?;
+        let now = read_moment(rt, now)?;
         let mut known = Vec::new(alloc);
         for (entry, summary) in config.zone.iter().zip(summaries.iter()) {
             let apex = &entry.name.name;
@@ -142,7 +142,7 @@ impl Notifier {
 
     /// Takes the answers that came, and sends again what wasn't answered. An answer to what was signed has to verify.
     pub fn look<R: Log + Clock>(&mut self, rt: &R, alloc: Global, now: u64) -> anyhow::Result<()> {
-        let now = moment(rt, now)?;
+        let now = read_moment(rt, now)?;
         let pending = mem::replace(&mut self.pending, Vec::new(alloc));
         for notify in pending {
             let mut notify = notify;
