@@ -37,16 +37,16 @@ pub(crate) fn send<S: Write>(stream: &mut S, message: AdditionalBuilder) -> anyh
     Ok(())
 }
 
-/// Sends octets behind their number (RFC 1035, section 4.2.2).
-fn send_octets<S: Write>(stream: &mut S, octets: &[u8]) -> anyhow::Result<()> {
-    match u16::try_from(octets.len()) {
-        Ok(count) => {
-            stream.write_all(&count.to_be_bytes())?;
-            stream.write_all(octets)?;
-            Ok(())
-        }
-        Err(_) => bail!("a message is too long"),
-    }
+/// Sends octets behind their number, in one write (RFC 7766, section 8).
+fn send_octets<S: Write>(alloc: Global, stream: &mut S, octets: &[u8]) -> anyhow::Result<()> {
+    let Ok(count) = u16::try_from(octets.len()) else {
+        bail!("a message is too long");
+    };
+    let mut framed = Vec::new(alloc);
+    framed.extend_from_slice(&count.to_be_bytes())?;
+    framed.extend_from_slice(octets)?;
+    stream.write_all(framed.as_slice())?;
+    Ok(())
 }
 
 /// Sends a message that is signed under a key, and gives its MAC.
@@ -60,7 +60,7 @@ pub(crate) fn send_signed<R: Clock, S: Write>(
     let secs = seconds(rt)?;
     match sign_request(alloc, key, secs, &message.into_message())? {
         Some(SignedRequest { octets, mac }) => {
-            send_octets(stream, octets.as_slice())?;
+            send_octets(alloc, stream, octets.as_slice())?;
             Ok(mac)
         }
         None => bail!("no TSIG has room"),
