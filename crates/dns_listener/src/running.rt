@@ -3,7 +3,7 @@
 ghost use Rattle.std.specs.Prelude.{◌≡◌, IfOk};
 ghost use Rattle.std.specs.Arc.{arc_value};
 
-use crate::layers::{Tally, serve_zones};
+use crate::layers::{KeyRules, Outside, Tally, serve_zones};
 use crate::listener::Listener;
 use crate::place::Place;
 use anyhow::bail;
@@ -22,7 +22,8 @@ use std::rt::Clock;
 use std::sync::{Arc, Wait};
 use std::thread::{self, JoinHandle, Threads};
 
-/// What is served: the zones, by settings, with the target of NOTIFY, the identifier of the server, and what counts the replies.
+/// What is served: the zones, by settings, with the target of NOTIFY, the identifier of the server, what counts the replies, and the
+/// keys.
 #[derive(Drop)]
 pub struct Offer {
     pub(crate) settings: Settings,
@@ -30,6 +31,7 @@ pub struct Offer {
     pub(crate) target: Arc<NotifyTarget>,
     pub(crate) nsid: Option<Nsid>,
     pub(crate) tally: Tally,
+    pub(crate) rules: KeyRules,
 }
 
 /// The identifier that a configuration says.
@@ -44,7 +46,7 @@ fn nsid_of(alloc: Global, identifier: &Option<Identifier>) -> Result<Option<Nsid
 }
 
 impl Offer {
-    /// An offer of these, which are shared.
+    /// An offer of these, which are shared, and of these keys.
     pub fn new(
         alloc: Global,
         settings: &Settings,
@@ -52,10 +54,12 @@ impl Offer {
         target: &Arc<NotifyTarget>,
         identifier: &Option<Identifier>,
         tally: Tally,
+        rules: KeyRules,
     ) -> Result<Offer, OutOfMemory>
         ensures settings { IfOk result (λ o. o.settings ≡ settings.now) }
         ensures service { IfOk result (λ o. arc_value o.service ≡ arc_value service.now) }
         ensures target { IfOk result (λ o. arc_value o.target ≡ arc_value target.now) }
+        ensures rules { IfOk result (λ o. o.rules ≡ rules) }
     {
         let service = Arc::try_clone(service)?;
         let target = Arc::try_clone(target)?;
@@ -67,6 +71,7 @@ impl Offer {
             target,
             nsid,
             tally,
+            rules,
         })
     }
 }
@@ -100,8 +105,10 @@ impl<R: Clock + Threads + Wait + Copy + Send + Sync + 'static> Post<R> {
             target,
             nsid,
             tally,
+            rules,
         } = offer;
-        serve_zones(rt, alloc, place, tally, &settings, nsid, service, target)
+        let outside = Outside { tally, rules };
+        serve_zones(rt, alloc, place, outside, &settings, nsid, service, target)
     }
 }
 

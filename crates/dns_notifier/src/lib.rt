@@ -8,6 +8,8 @@
 //! a new generation -> tell_changes -> NOTIFY -> look: answered | sent again | given up
 //! ```
 //!
+//! Who shares a key is told under it (RFC 8945): each NOTIFY is signed as it is sent, and an answer that doesn't verify is left.
+//!
 //! A NOTIFY is sent five times at most, 15 s after each other (RFC 1996, section 3.6). Each has a socket and an identifier of
 //! its own. What is told, answered and given up is logged. One address that can't be told doesn't keep the others from it.
 //!

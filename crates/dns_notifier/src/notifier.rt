@@ -2,16 +2,20 @@
 
 ghost use Rattle.std.specs.Prelude.{◌≡◌, option_map};
 
-use crate::pending::{NotifyState, PendingNotify};
-use dns_config::{Config, ZoneEntry};
+use crate::pending::{Moment, NotifyState, PendingNotify};
+use anyhow::bail;
+use dns_config::{Config, Peer, ZoneEntry};
 use dns_generation::ZoneSummary;
 use dns_name::Name;
+use dns_peer_keys::{Key, PeerKeys};
 use dns_socket_addr::SocketAddrText;
 use log::{Log, error, info};
 use std::alloc::Global;
 use std::mem;
 use std::net::Net;
 use std::random::RandomSource;
+use std::rt::Clock;
+use std::sync::Arc;
 
 /// The serial of a zone. One without data has none.
 pub fn serial_of(summary: &ZoneSummary) -> Option<u32>
@@ -21,6 +25,36 @@ pub fn serial_of(summary: &ZoneSummary) -> Option<u32>
         Some(timers) => Some(timers.serial.into_int()),
         None => None,
     }
+}
+
+/// The moment in milliseconds, and the seconds since 1970.
+fn read_moment<R: Clock>(rt: &R, millis: u64) -> anyhow::Result<Moment> {
+    let secs = rt.since_1970()?.as_secs();
+    Ok(Moment { millis, secs })
+}
+
+/// The key that is shared with one who is told, if there is one.
+fn key_of(keys: &PeerKeys, peer: &Peer) -> anyhow::Result<Option<Arc<Key>>> {
+    match &peer.key {
+        Some(named) => match keys.get(&named.name) {
+            Some((_, key)) => Ok(Some(Arc::try_clone(key)?)),
+            None => bail!("the key {} isn't known", named.name),
+        },
+        None => Ok(None),
+    }
+}
+
+/// Begins to tell one of a zone.
+fn begun<R: Net + RandomSource>(
+    rt: &R,
+    alloc: Global,
+    apex: &Name,
+    keys: &PeerKeys,
+    peer: &Peer,
+    now: Moment,
+) -> anyhow::Result<PendingNotify> {
+    let key = key_of(keys, peer)?;
+    PendingNotify::begin(rt, alloc, apex, peer.address, key, now)
 }
 
 /// A zone, and the serial of which was told.
@@ -62,12 +96,13 @@ impl Notifier {
         rt: &R,
         alloc: Global,
         entry: &ZoneEntry,
-        now: u64,
+        keys: &PeerKeys,
+        now: Moment,
     ) -> anyhow::Result<()> {
         let apex = &entry.name.name;
-        for endpoint in entry.notify.iter() {
-            let to = endpoint.address;
-            match PendingNotify::begin(rt, alloc, apex, to, now) {
+        for peer in entry.notify.iter() {
+            let to = peer.address;
+            match begun(rt, alloc, apex, keys, peer, now) {
                 Ok(notify) => {
                     info!(rt; "{apex}: NOTIFY to {}", SocketAddrText(to));
                     self.pending.push(notify)?;
@@ -79,21 +114,23 @@ impl Notifier {
     }
 
     /// Tells those who are to know of each zone of a configuration that is served with another serial than before. The summaries
-    /// are those of its zones, in their order.
-    pub fn tell_changes<R: Net + RandomSource + Log>(
+    /// are those of its zones, in their order. Who shares a key is told under it.
+    pub fn tell_changes<R: Net + RandomSource + Log + Clock>(
         &mut self,
         rt: &R,
         alloc: Global,
         config: &Config,
+        keys: &PeerKeys,
         summaries: &[ZoneSummary],
         now: u64,
     ) -> anyhow::Result<()> {
+        let now = read_moment(rt, now)?;
         let mut known = Vec::new(alloc);
         for (entry, summary) in config.zone.iter().zip(summaries.iter()) {
             let apex = &entry.name.name;
             if let Some(serial) = serial_of(summary) {
                 if !self.is_known(apex, serial) {
-                    self.tell(rt, alloc, entry, now)?;
+                    self.tell(rt, alloc, entry, keys, now)?;
                 }
                 let apex = apex.try_clone(alloc)?;
                 known.push(Known { apex, serial })?;
@@ -103,8 +140,9 @@ impl Notifier {
         Ok(())
     }
 
-    /// Takes the answers that came, and sends again what wasn't answered.
-    pub fn look<R: Log>(&mut self, rt: &R, alloc: Global, now: u64) -> anyhow::Result<()> {
+    /// Takes the answers that came, and sends again what wasn't answered. An answer to what was signed has to verify.
+    pub fn look<R: Log + Clock>(&mut self, rt: &R, alloc: Global, now: u64) -> anyhow::Result<()> {
+        let now = read_moment(rt, now)?;
         let pending = mem::replace(&mut self.pending, Vec::new(alloc));
         for notify in pending {
             let mut notify = notify;
@@ -113,6 +151,11 @@ impl Notifier {
                 NotifyState::Answered(code) => {
                     let to = SocketAddrText(notify.to);
                     info!(rt; "{}: NOTIFY was answered by {to} with code {code}", notify.apex);
+                }
+                NotifyState::NotTaken(fault) => {
+                    let to = SocketAddrText(notify.to);
+                    error!(rt; "{}: NOTIFY to {to}: {fault}", notify.apex);
+                    self.pending.push(notify)?;
                 }
                 NotifyState::GaveUp => {
                     let to = SocketAddrText(notify.to);

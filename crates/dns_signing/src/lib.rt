@@ -5,6 +5,7 @@
 //! - A request with a TSIG is verified under the key of a `KeyStore` that it names, and handed on without its TSIG. One
 //!   without a TSIG is answered as before.
 //! - `Signer` signs the replies, each behind the one before, and `SignedStream` is the stream of them.
+//! - `error_response` is an error reply, with an OPT record where the request has one.
 //! - A request that doesn't verify gets NOTAUTH: unsigned for BADKEY and BADSIG, signed for BADTIME and BADTRUNC. One
 //!   whose TSIG can't be interpreted gets FORMERR. Such a reply has an OPT record where the request has one.
 //!
@@ -35,7 +36,7 @@
 //! refuses it is left out of it.
 #![tactic(auto)]
 
-mod error_response;
+mod error_replies;
 mod laws;
 mod refusing;
 mod room;
@@ -44,6 +45,7 @@ mod signer;
 mod tsig_layer;
 
 pub use dns_tsig::{Algorithm, Key, KeyStore};
+pub use error_replies::error_response;
 pub use laws::{
     refusals_fit, signed_replies_fit, signed_replies_verify, signed_transfers_are_taken,
     unknown_keys_are_refused, unsigned_requests_are_as_before, verified_requests_are_signed_back,

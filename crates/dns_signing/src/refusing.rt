@@ -7,7 +7,7 @@ ghost use Rattle.dns_signing.specs.Layer.{clock, refusal_of};
 ghost use Rattle.dns_signing.specs.Refused.{refusal_reply, signed_reply, unsigned_reply, with_record_within};
 ghost use Rattle.dns_signing.specs.Room.{own_size};
 
-use crate::error_response::error_within;
+use crate::error_replies::error_within;
 use crate::room::{own_size, refusal_size, unsigned_size};
 use dns_base::{AdditionalBuilder, PushError, Record};
 use dns_name::OptRcode;

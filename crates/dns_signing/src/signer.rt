@@ -7,7 +7,7 @@ ghost use Rattle.dns_tsig.specs.Sending.{code_behind};
 ghost use Rattle.dns_tsig.specs.Streams.{chain_at};
 ghost use Rattle.dns_signing.specs.SignedReplies.{behind_answer, behind_item, behind_reply, code_of, signed, signed_answer, signed_item, signed_whole, with_code};
 
-use crate::error_response::error_response;
+use crate::error_replies::error_response;
 use dns_base::{AdditionalBuilder, Message, PushError};
 use dns_name::OptRcode;
 use dns_service::{

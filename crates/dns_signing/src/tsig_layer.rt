@@ -12,7 +12,7 @@ ghost use Rattle.dns_signing.specs.Refused.{refusal_reply, unknown_reply};
 ghost use Rattle.dns_signing.specs.Room.{own_size};
 ghost use Rattle.dns_signing.specs.SignedReplies.{signed_answers};
 
-use crate::error_response::error_within;
+use crate::error_replies::error_within;
 use crate::refusing::{clock, refusal_reply, unsigned_reply};
 use crate::room::{own_size, room_of};
 use crate::signed_stream::SignedStream;

@@ -4,15 +4,17 @@ ghost use Rattle.std.specs.Prelude.{◌≡◌};
 
 use crate::checking::Checking;
 use crate::secondary::Secondary;
-use dns_config::{Config, ZoneEntry};
+use anyhow::bail;
+use dns_config::{Config, Peer, ZoneEntry};
 use dns_generation::ZoneSummary;
 use dns_name::OutOfMemory;
+use dns_peer_keys::{Key, PeerKeys};
 use dns_secondary_service::NotifyTarget;
 use log::Log;
 use std::alloc::{AllocError, Global};
 use std::mem;
 use std::net::Net;
-use std::rt::Files;
+use std::rt::{Clock, Files};
 use std::sync::Arc;
 use std::sync::atomic::{AtomicBool, Ordering};
 use std::thread::Threads;
@@ -43,39 +45,50 @@ fn taken_out(secondaries: &mut Vec<Secondary>, entry: &ZoneEntry) -> Option<Seco
     }
 }
 
-/// The secondary of an entry, if that has a primary: one of these, where it was there before.
+/// The key that is shared with a primary, if there is one.
+fn key_of(keys: &PeerKeys, peer: &Peer) -> anyhow::Result<Option<Arc<Key>>> {
+    match &peer.key {
+        Some(named) => match keys.get(&named.name) {
+            Some((_, key)) => Ok(Some(Arc::try_clone(key)?)),
+            None => bail!("the key {} isn't known", named.name),
+        },
+        None => Ok(None),
+    }
+}
+
+/// The secondary of an entry with this primary: one of these, where it was there before.
 fn followed(
     alloc: Global,
     before: &mut Vec<Secondary>,
     entry: &ZoneEntry,
+    peer: &Peer,
+    key: Option<Arc<Key>>,
     summary: &ZoneSummary,
     now: u64,
-) -> Result<Option<Secondary>, OutOfMemory> {
-    let primary = match entry.primary {
-        Some(endpoint) => endpoint.address,
-        None => return Ok(None),
-    };
+) -> Result<Secondary, OutOfMemory> {
     match taken_out(before, entry) {
         Some(mut secondary) => {
-            secondary.follow(summary, now);
-            Ok(Some(secondary))
+            secondary.follow(key, summary, now);
+            Ok(secondary)
         }
-        None => Ok(Some(Secondary::new(alloc, entry, primary, summary, now)?)),
+        None => Secondary::new(alloc, entry, peer.address, key, summary, now),
     }
 }
 
-/// The secondaries of a configuration with these summaries, those of before taken out of these.
+/// The secondaries of a configuration with these keys and summaries, those of before taken out of these.
 fn follow_all(
     alloc: Global,
     before: &mut Vec<Secondary>,
     config: &Config,
+    keys: &PeerKeys,
     summaries: &[ZoneSummary],
     now: u64,
-) -> Result<Vec<Secondary>, OutOfMemory> {
+) -> anyhow::Result<Vec<Secondary>> {
     let mut secondaries = Vec::new(alloc);
     for (entry, summary) in config.zone.iter().zip(summaries.iter()) {
-        if let Some(secondary) = followed(alloc, before, entry, summary, now)? {
-            secondaries.push(secondary)?;
+        if let Some(peer) = &entry.primary {
+            let key = key_of(keys, peer)?;
+            secondaries.push(followed(alloc, before, entry, peer, key, summary, now)?)?;
         }
     }
     Ok(secondaries)
@@ -92,7 +105,7 @@ fn target_of(alloc: Global, secondaries: &[Secondary]) -> Result<Arc<NotifyTarge
 }
 
 /// Looks at each copy, those that were woken first of all. Whether another one, or none, is served from now on.
-fn look_at_all<R: Net + Files + Log + Threads>(
+fn look_at_all<R: Net + Files + Log + Threads + Clock + Copy + Send + 'static>(
     rt: &R,
     alloc: Global,
     secondaries: &mut [Secondary],
@@ -149,19 +162,20 @@ impl Copies {
         Ok(())
     }
 
-    /// Goes on to the zones of a configuration with these summaries. A zone that was there before with its primary keeps what is
-    /// known of its copy.
+    /// Goes on to the zones of a configuration with these keys and summaries. A zone that was there before with its primary keeps
+    /// what is known of its copy.
     pub fn follow(
         &mut self,
         alloc: Global,
         config: &Config,
+        keys: &PeerKeys,
         summaries: &[ZoneSummary],
         now: u64,
-    ) -> Result<(), OutOfMemory> {
+    ) -> anyhow::Result<()> {
         let mut before = mem::replace(&mut self.secondaries, Vec::new(alloc));
-        self.secondaries = follow_all(alloc, &mut before, config, summaries, now)?;
+        self.secondaries = follow_all(alloc, &mut before, config, keys, summaries, now)?;
         self.target = target_of(alloc, self.secondaries.as_slice())?;
-        self.leave(before)
+        Ok(self.leave(before)?)
     }
 
     /// Ends the checks of zones that are no longer configured, where they are done.
@@ -178,7 +192,7 @@ impl Copies {
     }
 
     /// Looks at each copy. Whether another one, or none, is served from now on.
-    pub fn look<R: Net + Files + Log + Threads>(
+    pub fn look<R: Net + Files + Log + Threads + Clock + Copy + Send + 'static>(
         &mut self,
         rt: &R,
         alloc: Global,

@@ -10,6 +10,8 @@
 //! NOTIFY -> target -> look: a check is due
 //! ```
 //!
+//! Where a key is shared with the primary (RFC 8945), both queries are signed under it, and replies that don't verify are refused.
+//!
 //! A check is a connection to the primary in a thread of its own. It asks for the SOA record first, and for the zone where that
 //! is newer (RFC 1982). What comes is judged as a zone file is. The file of a copy is replaced by a rename.
 //!

@@ -1,11 +1,12 @@
 //! Zones that the server is secondary of.
 
-ghost use Rattle.std.specs.Prelude.{◌≡◌, ◌&&◌, IfOk, is_none, is_some};
+ghost use Rattle.std.specs.Prelude.{◌≡◌, ◌&&◌, IfOk, is_none, is_some, option_map};
+ghost use Rattle.std.specs.Arc.{arc_value};
 ghost use Rattle.std.specs.Bool.{OnFalse, OnTrue};
 ghost use Rattle.dns_name.specs.Canonical.{same_name};
 ghost use Rattle.dns_secondary.specs.Copies.{is_obsolete, offered, without_obsolete, woken};
 ghost use Rattle.dns_socket_addr.specs.SocketAddresses.{same_socket_addr};
-ghost use Rattle.dns_zone_copies.specs.Secondaries.{begun, followed, is_entry_of};
+ghost use Rattle.dns_zone_copies.specs.Secondaries.{begun, followed, is_entry_of, under};
 
 use crate::check::{Check, Checked};
 use crate::checking::Checking;
@@ -13,6 +14,7 @@ use crate::primary::connect;
 use dns_config::ZoneEntry;
 use dns_generation::ZoneSummary;
 use dns_name::{Name, OutOfMemory, SocketAddr};
+use dns_peer_keys::Key;
 use dns_secondary::{SoaTimers, WatchedZone, ZoneCopy};
 use dns_socket_addr::{SocketAddrText, same_socket_addr};
 use log::{Log, error, info};
@@ -21,7 +23,7 @@ use std::fmt::Write;
 use std::fs;
 use std::marker::Model;
 use std::net::Net;
-use std::rt::Files;
+use std::rt::{Clock, Files};
 use std::sync::Arc;
 use std::sync::atomic::AtomicBool;
 use std::thread::Threads;
@@ -31,46 +33,59 @@ use std::thread::Threads;
 pub struct Secondary {
     apex: Name,
     primary: SocketAddr,
+    key: Option<Arc<Key>>,
     file: String,
     copy: ZoneCopy,
     checking: Option<Checking>,
 }
 
 impl Model for Secondary {
+    ghost use Rattle.std.specs.Prelude.{option_map};
+    ghost use Rattle.std.specs.Arc.{arc_value};
     ghost use Rattle.dns_zone_copies.specs.Secondaries.{SecondaryState};
 
     ghost Value = { SecondaryState };
 
-    ghost view = { λ s. record { apex = s.apex; primary = s.primary; copy = s.copy } };
+    ghost view = { λ s. record { apex = s.apex; primary = s.primary; key = option_map arc_value s.key; copy = s.copy } };
 }
 
 /// Whether an entry of the configuration is of a zone with this apex and this primary.
 fn is_entry_of(entry: &ZoneEntry, apex: &Name, primary: SocketAddr) -> bool
     ensures { result ≡ is_entry_of entry.now.primary entry.now.name.name apex.now primary }
 {
-    match entry.primary {
-        Some(endpoint) => {
-            entry.name.name == *apex && same_socket_addr(endpoint.address, primary)
-        }
+    match &entry.primary {
+        Some(peer) => entry.name.name == *apex && same_socket_addr(peer.address, primary),
         None => false,
     }
 }
 
+/// A key, shared once more.
+fn shared(key: &Option<Arc<Key>>) -> Result<Option<Arc<Key>>, OutOfMemory>
+    ensures { IfOk result (λ shared. option_map arc_value shared ≡ option_map arc_value key.now) }
+{
+    match key {
+        Some(key) => Ok(Some(Arc::try_clone(key)?)),
+        None => Ok(None),
+    }
+}
+
 impl Secondary {
-    /// The secondary of an entry that has this primary. It begins with the copy of the summary.
+    /// The secondary of an entry that has this primary, and shares this key with it. It begins with the copy of the summary.
     pub(crate) fn new(
         alloc: Global,
         entry: &ZoneEntry,
         primary: SocketAddr,
+        key: Option<Arc<Key>>,
         summary: &ZoneSummary,
         now: u64,
     ) -> Result<Secondary, OutOfMemory>
-        ensures { IfOk result (λ s. s ≡ begun entry.now.name.name primary summary.now.timers now) }
+        ensures { IfOk result (λ s. s ≡ begun entry.now.name.name primary (option_map arc_value key) summary.now.timers now) }
     {
         let file = String::from_str(alloc, entry.file.as_str())?;
         Ok(Secondary {
             apex: entry.name.name.try_clone(alloc)?,
             primary,
+            key,
             file,
             copy: ZoneCopy::new(primary.ip, summary.timers, now),
             checking: None,
@@ -114,10 +129,11 @@ impl Secondary {
         self.copy.wake();
     }
 
-    /// Forgets a copy that isn't served, and waits before another one is asked for.
-    pub(crate) fn follow(&mut self, summary: &ZoneSummary, now: u64)
-        ensures { self.new ≡ followed self.old summary.now.timers now }
+    /// Forgets a copy that isn't served, and waits before another one is asked for. This key is shared from now on.
+    pub(crate) fn follow(&mut self, key: Option<Arc<Key>>, summary: &ZoneSummary, now: u64)
+        ensures { self.new ≡ followed (under (option_map arc_value key) self.old) summary.now.timers now }
     {
+        self.key = key;
         if summary.timers.is_none() && self.has_copy() {
             self.copy = ZoneCopy::new(self.primary.ip, None, now);
             self.copy.begin(now);
@@ -237,7 +253,7 @@ impl Secondary {
     }
 
     /// Begins a check.
-    fn begin<R: Net + Threads>(
+    fn begin<R: Net + Threads + Clock + Copy + Send + 'static>(
         &mut self,
         rt: &R,
         alloc: Global,
@@ -248,6 +264,7 @@ impl Secondary {
         let check = Check {
             apex: self.apex.try_clone(alloc)?,
             stream: connect(rt, self.primary)?,
+            key: shared(&self.key)?,
             copy: self.copy,
             stop: Arc::try_clone(stop)?,
         };
@@ -268,7 +285,7 @@ impl Secondary {
     }
 
     /// Begins a check that is due, unless one is going on. That it can't be begun is logged.
-    fn begin_due<R: Net + Log + Threads>(
+    fn begin_due<R: Net + Log + Threads + Clock + Copy + Send + 'static>(
         &mut self,
         rt: &R,
         alloc: Global,
@@ -285,7 +302,7 @@ impl Secondary {
 
     /// Takes what came of a check, discards an obsolete copy, and begins a check that is due. Whether another copy, or none, is
     /// served from now on.
-    pub(crate) fn look<R: Net + Files + Log + Threads>(
+    pub(crate) fn look<R: Net + Files + Log + Threads + Clock + Copy + Send + 'static>(
         &mut self,
         rt: &R,
         alloc: Global,

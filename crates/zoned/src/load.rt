@@ -1,6 +1,7 @@
 //! Zones that are read of files.
 
 use crate::configuration::load_config;
+use crate::served::Keys;
 use anyhow::{Context, bail};
 use dns_config::{Config, ZoneEntry};
 use dns_generation::{Generation, ZoneSummary, networks};
@@ -132,6 +133,7 @@ pub(crate) fn report(
 /// Says what a configuration would serve and where, or the first fault.
 pub(crate) fn check(rt: &HostRuntime, path: &str) -> anyhow::Result<()> {
     let config = load_config(rt, path)?;
+    let _ = Keys::of(rt, &config).context(format_args!("{path}"))?;
     let generation = load_generation(rt, &config, &[])?;
     for endpoint in config.listen.iter() {
         println!(rt; "listen {}", SocketAddrText(endpoint.address))?;

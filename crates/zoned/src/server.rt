@@ -163,9 +163,9 @@ impl Server {
         let now = self.seconds(rt)?;
         let served = &self.served;
         let summaries = served.zones.summaries.as_slice();
+        let keys = &served.keys.shared;
         self.copies
-            .follow(rt.alloc(), &served.config, summaries, now)?;
-        Ok(())
+            .follow(rt.alloc(), &served.config, keys, summaries, now)
     }
 
     /// Goes on to another generation.
@@ -185,6 +185,7 @@ impl Server {
             self.copies.target(),
             &served.config.nsid,
             self.counters.tally()?,
+            served.keys.rules(alloc)?,
         )
     }
 
@@ -284,7 +285,7 @@ impl Server {
 
     /// Looks at the copies and at those who were told of a serial. Where another copy came, or one went, the zones are read and
     /// judged again.
-    fn look<R: Net + Files + Threads + Log>(
+    fn look<R: Net + Files + Threads + Clock + Log + Copy + Send + 'static>(
         &mut self,
         machine: &R,
         rt: &HostRuntime,
@@ -301,7 +302,11 @@ impl Server {
 
     /// Logs the transfers that were noted, and does what a caller asks, or what the copies lead to. What fails is logged, and what is
     /// served stays.
-    fn turn<R: Net + Files + Threads + Wait + Log>(&mut self, machine: &R, rt: &HostRuntime) {
+    fn turn<R: Net + Files + Threads + Wait + Clock + Log + Copy + Send + 'static>(
+        &mut self,
+        machine: &R,
+        rt: &HostRuntime,
+    ) {
         self.counters.log_transfers(machine);
         self.obey_next(rt);
         if self.phase != Phase::Serving {
@@ -313,7 +318,7 @@ impl Server {
     }
 
     /// Waits until another generation is to be served, or none, or a listener ends by itself. Then each listener is shut down.
-    fn wait<R: Net + Files + Threads + Wait + Clock + Log>(
+    fn wait<R: Net + Files + Threads + Wait + Clock + Log + Copy + Send + 'static>(
         &mut self,
         machine: &R,
         rt: &HostRuntime,
@@ -335,7 +340,7 @@ impl Server {
     }
 
     /// Tells of the serials that are served. That this fails is logged.
-    fn tell<R: Net + RandomSource + Log>(
+    fn tell<R: Net + RandomSource + Clock + Log>(
         &mut self,
         machine: &R,
         rt: &HostRuntime,
@@ -343,8 +348,9 @@ impl Server {
         let now = self.seconds(rt)?.saturating_mul(MILLIS);
         let served = &self.served;
         let summaries = served.zones.summaries.as_slice();
+        let keys = &served.keys.shared;
         self.notifier
-            .tell_changes(machine, rt.alloc(), &served.config, summaries, now)
+            .tell_changes(machine, rt.alloc(), &served.config, keys, summaries, now)
     }
 
     /// Shows the generation that is served in the metrics.

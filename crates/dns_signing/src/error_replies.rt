@@ -9,7 +9,7 @@ use dns_service::{OutOfMemory, cut, mk_builder_for_target, mk_error_response, re
 use std::alloc::Global;
 
 /// The error reply to a request, with an OPT record where the request has one (RFC 6891, section 6.1.1).
-pub(crate) fn error_response(
+pub fn error_response(
     alloc: Global,
     request: &Message,
     rcode: OptRcode,

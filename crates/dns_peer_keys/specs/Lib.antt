@@ -1,0 +1,3 @@
+pub mod PeerKeys
+pub mod Exchanges
+pub mod TransferChains
