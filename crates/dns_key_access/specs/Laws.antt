@@ -15,7 +15,8 @@ use Rattle.dns_key_access.specs.declared.access.KeyAccess.{KeyAccess}
 use Rattle.dns_key_access.specs.declared.access.ZoneAccess.{ZoneAccess}
 
 abbrev pub AllIsAsBefore : Type 0
-AllIsAsBefore = (answer : Req (Unit {0}) → ℕ → Answer) (a : KeyAccess) (r : Req (Option ℕ)) (k : ℕ) → a.transfers.items ≡ [] → a.notifies.items ≡ [] → access_answer answer a r k ≡ answer (without_key r) k
+AllIsAsBefore = (answer : Req (Unit {0}) → ℕ → Answer) (a : KeyAccess) (r : Req (Option ℕ)) (k : ℕ) → a.transfers.items ≡ []
+    → a.notifies.items ≡ [] → access_answer answer a r k ≡ answer (without_key r) k
 
 -- a request about one of some zones, none of whose rules permits who asks
 pub record AsksWithout (zones : List ZoneAccess) (z : ZoneAccess) (r : Req (Option ℕ)) (q : Question) : Type 0 where
@@ -25,7 +26,11 @@ pub record AsksWithout (zones : List ZoneAccess) (z : ZoneAccess) (r : Req (Opti
   pub forbidden : is_permitted z.allowed.items (asker_of r) ≡ false
 
 abbrev pub TransfersAreJudged : Type 0
-TransfersAreJudged = (answer : Req (Unit {0}) → ℕ → Answer) (a : KeyAccess) (z : ZoneAccess) (r : Req (Option ℕ)) (q : Question) (k : ℕ) → AsksWithout a.transfers.items z r q → (header_of r.octets).opcode ≡ 0 → asks_transfer q ≡ true → access_answer answer a r k ≡ own_reply (error_response r.octets 5) k
+TransfersAreJudged = (answer : Req (Unit {0}) → ℕ → Answer) (a : KeyAccess) (z : ZoneAccess) (r : Req (Option ℕ)) (q : Question)
+    (k : ℕ) → AsksWithout a.transfers.items z r q → (header_of r.octets).opcode ≡ 0 → asks_transfer q ≡ true
+    → access_answer answer a r k ≡ own_reply (error_response r.octets 5) k
 
 abbrev pub NotifiesAreJudged : Type 0
-NotifiesAreJudged = (answer : Req (Unit {0}) → ℕ → Answer) (a : KeyAccess) (z : ZoneAccess) (r : Req (Option ℕ)) (q : Question) (k : ℕ) → AsksWithout a.notifies.items z r q → (header_of r.octets).opcode ≡ 4 → access_answer answer a r k ≡ own_reply (error_response r.octets 9) k
+NotifiesAreJudged = (answer : Req (Unit {0}) → ℕ → Answer) (a : KeyAccess) (z : ZoneAccess) (r : Req (Option ℕ)) (q : Question)
+    (k : ℕ) → AsksWithout a.notifies.items z r q → (header_of r.octets).opcode ≡ 4
+    → access_answer answer a r k ≡ own_reply (error_response r.octets 9) k

@@ -17,7 +17,8 @@ place_in keys (Some n) = option_map (λ found. Some found.0) (key_named n.name k
 
 -- a network, under the key that is named
 abbrev pub access_in : List KeyParts → AllowedNetwork → Option Access
-access_in keys r = option_map (λ key. record { network = record { address = r.network.address; bits = r.network.bits }; key = key }) (place_in keys r.key)
+access_in keys r = option_map (λ key. record { network = record { address = r.network.address; bits = r.network.bits }; key = key })
+    (place_in keys r.key)
 
 -- a whole address
 abbrev pub peer_access : List KeyParts → Peer → Option Access

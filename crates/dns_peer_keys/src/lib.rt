@@ -1,9 +1,9 @@
 //! Keys that name servers share, and what is asked of another server under one (TSIG, RFC 8945).
 //!
-//! - `PeerKeys` are the keys of a configuration, by their names. `add` makes one of the base64 of its secret, `get` finds one,
-//!   and `store` gives them to the layer that signs replies, each at its place. `KeyFault` says why a key isn't made.
-//! - `sign_request` signs a request as a `SignedRequest`, and `verified_reply` gives the reply to it without its TSIG. `TransferReplies`
-//!   takes the messages of a transfer. `TsigFault` says why one isn't taken.
+//! - `PeerKeys` are the keys of a configuration, by their names. `add` makes one of the base64 of its secret, and `get` finds one.
+//!   `store` gives them to the layer that signs replies, each at its place. `KeyFault` says why a key isn't made.
+//! - `sign_request` signs a request as a `SignedRequest`, and `verified_reply` gives the reply to it without its TSIG.
+//!   `TransferReplies` takes the messages of a transfer. `TsigFault` says why one isn't taken.
 //!
 //! ```text
 //! [[key]] -> PeerKeys -> store -> dns_signing

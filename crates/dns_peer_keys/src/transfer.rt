@@ -48,8 +48,12 @@ impl TransferReplies {
     /// Takes the next message, at a time in seconds since 1970. After a refusal nothing more is taken.
     pub fn take(&mut self, secs: u64, message: &Message) -> Result<(), TsigFault>
         ensures key { self.new.key ≡ self.old.key }
-        ensures ok { let k = self.old.key in OnOk result ((c : Chain) → Follows k c self.old.stream → GoesOn k (taken k (size_of k.algorithm) (tsig_time secs) c message.now) self.new.stream) }
-        ensures fault { let k = self.old.key in IfErr result (λ f. (c : Chain) → Follows k c self.old.stream → IsRefusedAs (taken k (size_of k.algorithm) (tsig_time secs) c message.now) message.now f) }
+        ensures ok { let k = self.old.key in OnOk result
+            ((c : Chain) → Follows k c self.old.stream
+            → GoesOn k (taken k (size_of k.algorithm) (tsig_time secs) c message.now) self.new.stream) }
+        ensures fault { let k = self.old.key in IfErr result
+            (λ f. (c : Chain) → Follows k c self.old.stream
+            → IsRefusedAs (taken k (size_of k.algorithm) (tsig_time secs) c message.now) message.now f) }
     {
         let whole = self.key.algorithm().digest_len();
         let now = tsig_time(secs);
