@@ -12,6 +12,9 @@
 //! NOTIFY -> target -> look: a check is due
 //! ```
 //!
+//! Where a key is shared with the primary (RFC 8945), both queries are signed under it, and replies that don't verify are
+//! refused. What is verified of a transfer is a front of it: that it is whole is seen by its second SOA record.
+//!
 //! A check is a connection to the primary in a thread of its own. It asks for the SOA record first, and for the zone where that
 //! is newer (RFC 1982). What comes is judged as a zone file is. The file of a copy is replaced by a rename. At most 10 checks go
 //! on at once, and the others wait in order. One that takes 10 minutes is given up.

@@ -1,7 +1,7 @@
 //! A name server: serves the zones of a configuration, judges a configuration, or speaks to a server that runs.
 //!
-//! - `words` has the words of the command line, and `load` reads configurations and zones. `orders` are what a running server is
-//!   asked for, and `measures` what it tells at its page of metrics.
+//! - `words` has the words of the command line, `load` reads configurations and zones, and `keys` reads keys. `orders` are what
+//!   a running server is asked for, and `measures` what it tells at its page of metrics.
 //! - `server` goes from generation to generation: it looks every 50 ms whether something is asked, and shuts the listeners
 //!   down where something else is to be served. `served` is what is served at a time.
 //!
@@ -30,6 +30,7 @@ ghost use Rattle.clap.specs.Values.{kind_of};
 ghost use Rattle.clap.specs.declared.error.kind.ErrorKind.TheVariants.{DisplayHelp, DisplayVersion};
 
 mod configuration;
+mod keys;
 mod load;
 mod measures;
 mod orders;
