@@ -1,5 +1,8 @@
 //! The check of a secondary's copy: the primary is asked for its SOA record, and for the zone where that is newer.
 
+ghost use Rattle.std.specs.Prelude.{IfOk, OnOk};
+ghost use Rattle.dns_zone_copies.specs.Replies.{GoesOnTo, IsReplyTo, MayEnd};
+
 use crate::primary::{receive, seconds, send, send_signed};
 use anyhow::bail;
 use dns_base::AdditionalBuilder;
@@ -110,7 +113,9 @@ fn verified<R: Clock>(
     alloc: Global,
     asked: &Option<SignedQuery>,
     message: Message,
-) -> anyhow::Result<Message> {
+) -> anyhow::Result<Message>
+    ensures { IfOk result (IsReplyTo asked.now message) }
+{
     match asked {
         Some(asked) => {
             let secs = seconds(rt)?;
@@ -183,14 +188,28 @@ fn receive_more<R: Clock, S: Read>(
     stop: &AtomicBool,
 ) -> anyhow::Result<Message> {
     let message = receive(alloc, stream, stop)?;
-    if let Some(replies) = replies {
-        replies.take(seconds(rt)?, &message)?;
-    }
+    go_on(rt, replies, &message)?;
     Ok(message)
 }
 
+/// Takes a message of a transfer that goes on what was verified before.
+fn go_on<R: Clock>(
+    rt: &R,
+    replies: &mut Option<TransferReplies>,
+    message: &Message,
+) -> anyhow::Result<()>
+    ensures { OnOk result (GoesOnTo replies.old replies.new message.now) }
+{
+    match replies {
+        Some(replies) => Ok(replies.take(seconds(rt)?, message)?),
+        None => Ok(()),
+    }
+}
+
 /// Whether a transfer may end: where it was asked under a key, its last message was signed.
-fn may_end(replies: &Option<TransferReplies>) -> bool {
+fn may_end(replies: &Option<TransferReplies>) -> bool
+    ensures { MayEnd replies.now result }
+{
     match replies {
         Some(replies) => replies.is_whole(),
         None => true,
