@@ -1,5 +1,9 @@
 //! The keys of a configuration, and what wants one.
 
+ghost use Rattle.std.specs.Prelude.{IfOk, OnOk};
+ghost use Rattle.dns_key_access.specs.Rules.{AreAccesses};
+ghost use Rattle.zoned.specs.Keys.{AreJudged, Grows, IsOfPeer, NotifyIsJudged, TransferIsJudged};
+
 use anyhow::{Context, bail};
 use dns_config::{AllowedNetwork, Config, KeyEntry, KeyName, Peer, ZoneEntry};
 use dns_key_access::{
@@ -70,7 +74,9 @@ fn access_of(
     alloc: Global,
     keys: &PeerKeys,
     rules: &[AllowedNetwork],
-) -> anyhow::Result<Vec<Access>> {
+) -> anyhow::Result<Vec<Access>>
+    ensures { IfOk result (λ allowed. AreAccesses keys.now rules.now allowed.items) }
+{
     match zone_access(alloc, keys, rules) {
         Ok(made) => Ok(made),
         Err(RuleFault::UnknownKey(place)) => match rules.get(place) {
@@ -81,33 +87,39 @@ fn access_of(
     }
 }
 
-/// What another server is permitted.
-fn access_of_peer(keys: &PeerKeys, peer: &Peer) -> anyhow::Result<Access> {
-    match peer_access(keys, peer) {
-        Some(access) => Ok(access),
-        None => unknown(&peer.key),
-    }
-}
-
-/// Adds who may transfer a zone, where one of its rules wants a key.
+/// Adds who may transfer a zone, where one of its networks wants a key.
 fn add_transfers(
     alloc: Global,
     keys: &PeerKeys,
-    config: &Config,
+    for_all: &[AllowedNetwork],
     entry: &ZoneEntry,
-    access: &mut KeyAccess,
-) -> anyhow::Result<()> {
+    zones: &mut Vec<ZoneAccess>,
+) -> anyhow::Result<()>
+    ensures judged { OnOk result (TransferIsJudged keys.now for_all.now entry.now zones.new.items) }
+    ensures kept { OnOk result (Grows zones.old.items zones.new.items) }
+{
     let rules = match &entry.allow_transfer {
         Some(own) => own.as_slice(),
-        None => config.allow_transfer.as_slice(),
+        None => for_all,
     };
     if wants_key(rules) {
-        access.transfers.push(ZoneAccess {
-            apex: entry.name.name.try_clone(alloc)?,
-            allowed: access_of(alloc, keys, rules)?,
-        })?;
+        let apex = entry.name.name.try_clone(alloc)?;
+        let allowed = access_of(alloc, keys, rules)?;
+        zones.push(ZoneAccess { apex, allowed })?;
     }
     Ok(())
+}
+
+/// What another server is permitted, alone.
+fn access_of_peer(alloc: Global, keys: &PeerKeys, peer: &Peer) -> anyhow::Result<Vec<Access>>
+    ensures { IfOk result (λ allowed. IsOfPeer keys.now peer.now allowed.items) }
+{
+    let mut allowed = Vec::new(alloc);
+    match peer_access(keys, peer) {
+        Some(access) => allowed.push(access)?,
+        None => return unknown(&peer.key),
+    }
+    Ok(allowed)
 }
 
 /// Adds who may tell of a zone, where a key is shared with its primary.
@@ -115,48 +127,67 @@ fn add_notifies(
     alloc: Global,
     keys: &PeerKeys,
     entry: &ZoneEntry,
-    access: &mut KeyAccess,
-) -> anyhow::Result<()> {
-    match &entry.primary {
-        Some(peer) if peer.key.is_some() => {
-            let mut allowed = Vec::new(alloc);
-            allowed.push(access_of_peer(keys, peer)?)?;
+    zones: &mut Vec<ZoneAccess>,
+) -> anyhow::Result<()>
+    ensures judged { OnOk result (NotifyIsJudged keys.now entry.now zones.new.items) }
+    ensures kept { OnOk result (Grows zones.old.items zones.new.items) }
+{
+    if let Some(peer) = &entry.primary {
+        if peer.key.is_some() {
             let apex = entry.name.name.try_clone(alloc)?;
-            access.notifies.push(ZoneAccess { apex, allowed })?;
-            Ok(())
+            let allowed = access_of_peer(alloc, keys, peer)?;
+            zones.push(ZoneAccess { apex, allowed })?;
         }
-        _ => Ok(()),
     }
+    Ok(())
 }
 
-/// Adds what of a zone wants a key.
+/// Refuses keys that aren't known, of those who are told of a zone.
+fn refuse_unknown(keys: &PeerKeys, entry: &ZoneEntry) -> anyhow::Result<()> {
+    for peer in entry.notify.iter() {
+        if peer_access(keys, peer).is_none() {
+            return unknown(&peer.key);
+        }
+    }
+    Ok(())
+}
+
+/// Adds what of a zone is judged by keys.
 fn add_zone(
     alloc: Global,
     keys: &PeerKeys,
-    config: &Config,
+    for_all: &[AllowedNetwork],
     entry: &ZoneEntry,
     access: &mut KeyAccess,
-) -> anyhow::Result<()> {
-    for peer in entry.notify.iter() {
-        let _ = access_of_peer(keys, peer)?;
-    }
-    add_transfers(alloc, keys, config, entry, access)?;
-    add_notifies(alloc, keys, entry, access)
+) -> anyhow::Result<()>
+    ensures transfers { OnOk result (TransferIsJudged keys.now for_all.now entry.now access.new.transfers.items) }
+    ensures notifies { OnOk result (NotifyIsJudged keys.now entry.now access.new.notifies.items) }
+    ensures kept { OnOk result (Grows access.old.transfers.items access.new.transfers.items) }
+    ensures kept_notifies { OnOk result (Grows access.old.notifies.items access.new.notifies.items) }
+{
+    refuse_unknown(keys, entry)?;
+    add_transfers(alloc, keys, for_all, entry, &mut access.transfers)?;
+    add_notifies(alloc, keys, entry, &mut access.notifies)
 }
 
-/// What of a configuration wants a key. Each key that is named has to be known.
+/// What of a configuration is judged by keys. Each key that is named has to be known.
 pub(crate) fn load_access(
     alloc: Global,
     config: &Config,
     keys: &PeerKeys,
-) -> anyhow::Result<KeyAccess> {
+) -> anyhow::Result<KeyAccess>
+    ensures { IfOk result (λ access. AreJudged keys.now config.now.allow_transfer.items config.now.zone.items
+        access.transfers.items access.notifies.items) }
+{
+    let for_all = config.allow_transfer.as_slice();
     let mut access = KeyAccess {
         transfers: Vec::new(alloc),
         notifies: Vec::new(alloc),
     };
-    for entry in config.zone.iter() {
-        let added = add_zone(alloc, keys, config, entry, &mut access);
-        added.context(format_args!("zone {}", entry.name.name))?;
+    'zones: for entry in config.zone.as_slice() {
+        if let Err(fault) = add_zone(alloc, keys, for_all, entry, &mut access) {
+            return Err(fault.context(format_args!("zone {}", entry.name.name)));
+        }
     }
     Ok(access)
 }
