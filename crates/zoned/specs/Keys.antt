@@ -1,5 +1,5 @@
 -- Which zones of a configuration are judged by keys (RFC 8945, section 5.2).
-use Rattle.std.specs.Prelude.{ℕ, ◌≡◌, true, List, [], ◌∷◌, Contains, map, Option, Some, None, is_some}
+use Rattle.std.specs.Prelude.{ℕ, ◌≡◌, true, All, List, [], ◌∷◌, Contains, map, Option, Some, None, is_some}
 use Rattle.dns_config.specs.declared.config.ZoneEntry.{ZoneEntry}
 use Rattle.dns_config.specs.declared.peer.AllowedNetwork.{AllowedNetwork}
 use Rattle.dns_config.specs.declared.peer.Peer.{Peer}
@@ -46,5 +46,5 @@ Grows before after = (z : ZoneAccess) → Contains before z → Contains after z
 -- each zone is judged where it wants a key
 pub record AreJudged (keys : List KeyParts) (for_all : List AllowedNetwork) (entries : List ZoneEntry)
     (transfers notifies : List ZoneAccess) : Type 0 where
-  pub transferred : (e : ZoneEntry) → Contains entries e → TransferIsJudged keys for_all e transfers
-  pub notified : (e : ZoneEntry) → Contains entries e → NotifyIsJudged keys e notifies
+  pub transferred : All (λ e. TransferIsJudged keys for_all e transfers) entries
+  pub notified : All (λ e. NotifyIsJudged keys e notifies) entries
