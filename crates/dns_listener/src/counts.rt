@@ -95,6 +95,9 @@ fn log_note<R: Log>(rt: &R, note: &TransferNote) {
     match note.news {
         TransferNews::Begun => info!(rt; "{}: a transfer to {client} begins", note.apex),
         TransferNews::Ended => info!(rt; "{}: a transfer to {client} has ended", note.apex),
+        TransferNews::BrokenOff => {
+            warn!(rt; "{}: a transfer to {client} was broken off", note.apex)
+        }
         TransferNews::Refused(code) => {
             warn!(rt; "{}: a transfer to {client} is refused with code {}", note.apex, code.to_int())
         }

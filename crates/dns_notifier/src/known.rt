@@ -31,7 +31,7 @@ impl Known {
     fn is_of(&self, apex: &Name) -> bool
         ensures { result ≡ is_of apex.now self.now }
     {
-        self.apex.name_eq(&apex.for_ref())
+        self.apex == *apex
     }
 }
 

@@ -72,7 +72,7 @@ impl Notifier {
     /// Whether the announcement of a zone to an address waits.
     fn is_waiting(&self, apex: &Name, to: SocketAddr) -> bool {
         for other in self.waiting.iter() {
-            if same_socket_addr(other.to, to) && other.apex.name_eq(&apex.for_ref()) {
+            if same_socket_addr(other.to, to) && other.apex == *apex {
                 return true;
             }
         }
@@ -197,7 +197,7 @@ impl Notifier {
         Ok(())
     }
 
-    /// Takes the answers that came, sends again what wasn't answered, and sends the announcements that wait, as many as may be on
+    /// Takes the answers that came, and sends again what wasn't answered. Sends the announcements that wait, as many as may be on
     /// their way at once. An answer to what was signed has to verify.
     pub fn look<R: Net + RandomSource + Log + Clock>(
         &mut self,

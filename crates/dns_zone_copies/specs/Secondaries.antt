@@ -57,8 +57,8 @@ abbrev pub is_held : Option SoaTimers → SoaTimers → Bool
 is_held None t = false
 is_held (Some held) t = same_timers held t
 
--- what is served is the copy: one that isn't served is forgotten, and another one is asked for later; another one that is served, as an
--- operator may put in the file's place, was current at a moment, and a check is due at once
+-- what is served is the copy: one that isn't served is forgotten, and another one is asked for later; another one may be served, as an
+-- operator may put it in the file's place: it was current at a moment, and a check is due at once
 abbrev pub copy_followed : IpAddr → CopyState → Option SoaTimers → ℕ → ℕ → CopyState
 copy_followed primary c None current now = if is_some c.held then checking (new_copy primary None now) now else c
 copy_followed primary c (Some served) current now = if is_held c.held served then c else new_copy primary (Some served) current
@@ -79,7 +79,8 @@ continued (Some s) name primary key file served current now = followed s key fil
 abbrev pub with_offer : SecondaryState → SoaTimers → ℕ → SecondaryState
 with_offer s t now = record s { copy = offered s.copy t now }
 
--- a zone that came and isn't served from now on: the copy is current; but one that is newer, and whose file can't be written, changes nothing
+-- a zone that came and isn't served from now on: the copy is current; but one that is newer, and whose file can't be written, changes
+-- nothing
 abbrev pub passed_over : SecondaryState → SoaTimers → ℕ → SecondaryState
 passed_over s t now = if is_newer s.copy.held t.serial then s else with_offer s t now
 

@@ -19,7 +19,7 @@
 //! is newer (RFC 1982). What comes is judged as a zone file is. The file of a copy is replaced by a rename. At most 10 checks go
 //! on at once, and the others wait in order. One that takes 10 minutes is given up.
 //!
-//! The file of a copy was written last when the copy came or was found current last, so that EXPIRE doesn't begin anew where the
+//! The file of a copy was written last when the copy came or was found current last. So EXPIRE doesn't begin anew where the
 //! server does.
 //!
 //! Moments are seconds since a moment that the owner picks, before each file was written. What comes of checks is logged.
@@ -29,7 +29,7 @@
 //! - The copy of a zone is told from others by its name and by the address and port of its primary (`is_of`).
 //! - What comes of a check is offered to the copy: a zone that came replaces it only if its serial is newer and its file is
 //!   written; else what is held stays (`take`).
-//! - The copy that is held is the one that is served (`follow`), and a copy that is held stays with what is known of it.
+//! - The copy that is held is the one that is served (`follow`). It stays with what is known of it.
 //! - The target of NOTIFY has the zones and the primaries of all secondaries.
 //! - Which check is due when, and when a copy is discarded, is proved of `ZoneCopy` of dns_secondary. What comes of the
 //!   messages of a transfer is proved of dns_incoming.

@@ -42,12 +42,9 @@ fn load_zone(
 fn stands_among(entries: &[ZoneEntry], entry: &ZoneEntry) -> bool
     ensures { result ≡ list_any (is_entry_named entry.now.name.name) entries.now }
 {
-    for other in entries {
-        if other.name.name.name_eq(&entry.name.name.for_ref()) {
-            return true;
-        }
-    }
-    false
+    entries
+        .iter()
+        .any(|other| other.name.name == entry.name.name)
 }
 
 /// Refuses a configuration in which a zone stands twice.
@@ -73,12 +70,9 @@ fn near<'a>(secondaries: &'a [Secondary], place: usize, entry: &ZoneEntry) -> &'
 fn is_without_copy(secondaries: &[Secondary], entry: &ZoneEntry) -> bool
     ensures { result ≡ list_any (lacks_copy entry.now.primary entry.now.name.name (string_bytes entry.now.file)) secondaries.now }
 {
-    for secondary in secondaries {
-        if secondary.lacks_copy_of(entry) {
-            return true;
-        }
-    }
-    false
+    secondaries
+        .iter()
+        .any(|secondary| secondary.lacks_copy_of(entry))
 }
 
 /// A zone in few words: without data where its secondary has no copy of it.
