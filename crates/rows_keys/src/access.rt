@@ -83,7 +83,7 @@ fn judged(row: &mut Row<'_>) {
     };
     let octets = row.vector();
     let alloc = row.alloc();
-    let (Ok(apex), Ok(message)) = (apex.to_name(alloc), Message::from_octets(octets)) else {
+    let (Ok(apex), Ok(message)) = (apex.to_owned(alloc), Message::from_octets(octets)) else {
         return row.fail(RowError::OutOfForm);
     };
     let Ok(access) = access_of(alloc, &apex, access) else {
