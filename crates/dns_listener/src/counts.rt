@@ -35,7 +35,7 @@ pub struct ReplyNumbers {
 /// What was counted up to a moment.
 #[derive(Clone, Copy)]
 pub struct Numbers {
-    pub replies: [ReplyNumbers; 7],
+    pub replies: [ReplyNumbers; 8],
     /// Connections that were accepted.
     pub connections: u64,
     /// Responses that were dropped.
@@ -55,8 +55,24 @@ fn reply_numbers(counts: &ReplyCounts, code: &'static str, number: Rcode) -> Rep
     }
 }
 
-/// How many replies had each response code that is told.
-fn all_replies(counts: &ReplyCounts) -> [ReplyNumbers; 7] {
+/// How many replies over a transport had a response code without a line of its own.
+fn others(counts: &ReplyCounts, is_stream: bool) -> u64 {
+    let codes = [
+        Rcode::YXDOMAIN,
+        Rcode::YXRRSET,
+        Rcode::NXRRSET,
+        Rcode::NOTZONE,
+        Rcode::DSOTYPENI,
+    ];
+    let mut number = 0u64;
+    for code in codes {
+        number = number.saturating_add(counts.number(is_stream, code));
+    }
+    number
+}
+
+/// How many replies had each response code that is counted, by the four bits of the header, and how many had another one.
+fn all_replies(counts: &ReplyCounts) -> [ReplyNumbers; 8] {
     [
         reply_numbers(counts, "NOERROR", Rcode::NOERROR),
         reply_numbers(counts, "FORMERR", Rcode::FORMERR),
@@ -65,6 +81,11 @@ fn all_replies(counts: &ReplyCounts) -> [ReplyNumbers; 7] {
         reply_numbers(counts, "NOTIMP", Rcode::NOTIMP),
         reply_numbers(counts, "REFUSED", Rcode::REFUSED),
         reply_numbers(counts, "NOTAUTH", Rcode::NOTAUTH),
+        ReplyNumbers {
+            code: "other",
+            udp: others(counts, false),
+            tcp: others(counts, true),
+        },
     ]
 }
 
@@ -74,6 +95,9 @@ fn log_note<R: Log>(rt: &R, note: &TransferNote) {
     match note.news {
         TransferNews::Begun => info!(rt; "{}: a transfer to {client} begins", note.apex),
         TransferNews::Ended => info!(rt; "{}: a transfer to {client} has ended", note.apex),
+        TransferNews::BrokenOff => {
+            warn!(rt; "{}: a transfer to {client} was broken off", note.apex)
+        }
         TransferNews::Refused(code) => {
             warn!(rt; "{}: a transfer to {client} is refused with code {}", note.apex, code.to_int())
         }

@@ -3,8 +3,9 @@
 //! - `Listener` has the sockets of an address: one for connections, and one for datagrams for each worker. `bind_all` opens
 //!   those of a configuration, and `say_listeners` says where is listened.
 //! - `Offer` is what is served: the zones, by settings, with the target of NOTIFY and the identifier of the server.
-//! - `Running` is a listener that serves an offer in a thread. `has_ended` says whether one has ended by itself, and `close_all`
-//!   shuts them down. `take_back` gives the listeners back, whose sockets stay open for what is served next.
+//! - `Running` is a listener that serves an offer in a thread. `start` gives the listener back where it can't be started.
+//!   `has_ended` says whether one has ended by itself, and `close_all` shuts them down. `take_back` gives the listeners back,
+//!   whose sockets stay open for what is served next.
 //! - `Counters` are what is counted at all listeners: `numbers` gives the counts of a moment, and `report` says them in lines.
 //!   `log_transfers` logs what was noted of transfers.
 //!
@@ -13,7 +14,7 @@
 //! ```
 //!
 //! The layers stand so, from outside: counts; notes of transfers; at most 512 octets over UDP without EDNS; the server's own OPT
-//! record; its identifier; server cookies; the four layers of dns_middleware; zones without data; the authority.
+//! record; its identifier; server cookies; the four layers of dns_middleware; zones without data, twice; the authority.
 //!
 //! # What is proved
 //!
@@ -28,10 +29,12 @@
 mod counts;
 mod layers;
 mod listener;
+mod offer;
 mod place;
 mod running;
 
 pub use counts::{Counters, Numbers, ReplyNumbers};
 pub use layers::Tally;
 pub use listener::{Listener, bind_all, say_listeners};
-pub use running::{Offer, Running, close_all, has_ended, take_back};
+pub use offer::{Offer, ZoneService};
+pub use running::{Running, Started, close_all, has_ended, take_back};

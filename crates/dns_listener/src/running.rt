@@ -1,19 +1,15 @@
 //! A listener that serves in a thread of its own.
 
-ghost use Rattle.std.specs.Prelude.{◌≡◌, IfOk};
+ghost use Rattle.std.specs.Prelude.{◌≡◌, ◌≢◌, IfOk, IsSome};
 ghost use Rattle.std.specs.Arc.{arc_value};
 
-use crate::layers::{Tally, serve_zones};
+use crate::layers::serve_zones;
 use crate::listener::Listener;
+use crate::offer::Offer;
 use crate::place::Place;
-use anyhow::bail;
-use dns_authority::Authority;
 use dns_book::{Book, BookSeat, BookState};
-use dns_config::Identifier;
-use dns_middleware::Settings;
+use dns_middleware::{Notifiable, Settings};
 use dns_name::OutOfMemory;
-use dns_opt::Nsid;
-use dns_secondary_service::{NotifyTarget, Withholding};
 use dns_socket_addr::SocketAddrText;
 use dns_workers::HostEnd;
 use log::{Log, error};
@@ -21,55 +17,6 @@ use std::alloc::Global;
 use std::rt::Clock;
 use std::sync::{Arc, Wait};
 use std::thread::{self, JoinHandle, Threads};
-
-/// What is served: the zones, by settings, with the target of NOTIFY, the identifier of the server, and what counts the replies.
-#[derive(Drop)]
-pub struct Offer {
-    pub(crate) settings: Settings,
-    pub(crate) service: Arc<Withholding<Authority>>,
-    pub(crate) target: Arc<NotifyTarget>,
-    pub(crate) nsid: Option<Nsid>,
-    pub(crate) tally: Tally,
-}
-
-/// The identifier that a configuration says.
-fn nsid_of(alloc: Global, identifier: &Option<Identifier>) -> Result<Option<Nsid>, OutOfMemory> {
-    match identifier {
-        Some(identifier) => {
-            let octets = Vec::from_slice(alloc, identifier.octets.as_slice())?;
-            Ok(Nsid::from_octets(octets).ok())
-        }
-        None => Ok(None),
-    }
-}
-
-impl Offer {
-    /// An offer of these, which are shared.
-    pub fn new(
-        alloc: Global,
-        settings: &Settings,
-        service: &Arc<Withholding<Authority>>,
-        target: &Arc<NotifyTarget>,
-        identifier: &Option<Identifier>,
-        tally: Tally,
-    ) -> Result<Offer, OutOfMemory>
-        ensures settings { IfOk result (λ o. o.settings ≡ settings.now) }
-        ensures service { IfOk result (λ o. arc_value o.service ≡ arc_value service.now) }
-        ensures target { IfOk result (λ o. arc_value o.target ≡ arc_value target.now) }
-    {
-        let service = Arc::try_clone(service)?;
-        let target = Arc::try_clone(target)?;
-        let nsid = nsid_of(alloc, identifier)?;
-        let settings = settings.try_clone(alloc)?;
-        Ok(Offer {
-            settings,
-            service,
-            target,
-            nsid,
-            tally,
-        })
-    }
-}
 
 /// A book of the configurations of the settings, and its seat.
 fn open_book(alloc: Global, settings: &Settings) -> Result<(Arc<Book>, BookSeat), OutOfMemory>
@@ -83,14 +30,35 @@ fn open_book(alloc: Global, settings: &Settings) -> Result<(Arc<Book>, BookSeat)
     }
 }
 
-/// A listener that is to serve, and what is served.
-#[derive(Drop)]
-struct Post<R> {
-    place: Place<R>,
-    offer: Offer,
+/// A book of the configurations of the settings twice, and a seat for each.
+fn open_twice<R: Wait>(
+    rt: &R,
+    alloc: Global,
+    settings: &Settings,
+) -> Result<((Arc<Book>, BookSeat), (Arc<Book>, BookSeat)), OutOfMemory>
+    ensures mine { IfOk result (λ r. r.0.1.book ≡ arc_value r.0.0) }
+    ensures theirs { IfOk result (λ r. r.1.1.book ≡ arc_value r.1.0) }
+{
+    let (book, seat) = open_book(alloc, settings)?;
+    let theirs = Arc::try_clone(&book)?;
+    let (mine, seat) = book.split(rt, seat);
+    Ok(((book, mine), (theirs, seat)))
 }
 
-impl<R: Clock + Threads + Wait + Copy + Send + Sync + 'static> Post<R> {
+/// A listener that is to serve, and what is served.
+#[derive(Drop)]
+struct Post<R, N> {
+    place: Place<R>,
+    offer: Offer<N>,
+}
+
+impl<
+    R: Clock + Threads + Wait + Copy + Send + Sync + 'static,
+    N: Notifiable + Send + Sync + 'static,
+> Post<R, N>
+where
+    N::Future: Send,
+{
     /// Serves until the book is shut down.
     fn serve(self, rt: R, alloc: Global) -> (Listener<R>, HostEnd) {
         let Post { place, offer } = self;
@@ -114,40 +82,59 @@ pub struct Running<R> {
     ghost at_book: { seat.book ≡ arc_value book },
 }
 
-/// A place at a listener, and the seat from which it is shut down.
-fn place_at<R: Wait + Drop>(
-    rt: &R,
-    listener: Listener<R>,
-    book: &Arc<Book>,
-    seat: BookSeat,
-) -> Result<(Place<R>, BookSeat), OutOfMemory>
-    requires { seat.book ≡ arc_value book.now }
-    ensures { IfOk result (λ r. r.1.book ≡ arc_value book.now) }
-{
-    let theirs = Arc::try_clone(book)?;
-    let (mine, seat) = book.split(rt, seat);
-    let place = Place {
-        listener,
-        book: theirs,
-        seat,
-    };
-    Ok((place, mine))
+/// What came of a listener that was to serve.
+#[derive(Drop)]
+pub enum Started<R> {
+    /// It serves.
+    Running(Running<R>),
+    /// There is no memory or no thread for it; its sockets stay open.
+    Refused(Listener<R>),
 }
 
 impl<R: Clock + Threads + Wait + Copy + Send + Sync + 'static> Running<R> {
     /// Starts a thread in which a listener serves.
-    pub fn start(
+    pub fn start<N: Notifiable + Send + Sync + 'static>(
         rt: R,
         alloc: Global,
         listener: Listener<R>,
-        offer: Offer,
-    ) -> anyhow::Result<Running<R>> {
-        let (book, seat) = open_book(alloc, &offer.settings)?;
-        let (place, seat) = place_at(&rt, listener, &book, seat)?;
-        let post = Post { place, offer };
+        offer: Offer<N>,
+    ) -> Started<R>
+    where
+        N::Future: Send,
+    {
+        match open_twice(&rt, alloc, &offer.settings) {
+            Ok((mine, (book, seat))) => {
+                let place = Place {
+                    listener,
+                    book,
+                    seat,
+                };
+                Running::serving(rt, alloc, Post { place, offer }, mine)
+            }
+            Err(_) => Started::Refused(listener),
+        }
+    }
+
+    /// Starts a thread at a post, whose book has another seat. Where there is none, the post serves nothing, as its book is shut down.
+    fn serving<N: Notifiable + Send + Sync + 'static>(
+        rt: R,
+        alloc: Global,
+        post: Post<R, N>,
+        mine: (Arc<Book>, BookSeat),
+    ) -> Started<R>
+    where
+        N::Future: Send,
+        requires { mine.1.book ≡ arc_value mine.0 }
+    {
+        let (book, mut seat) = mine;
         match thread::spawn(&rt, move || post.serve(rt, alloc)) {
-            Ok(thread) => Ok(Running { thread, book, seat }),
-            Err(_) => bail!("a thread can't be started"),
+            Ok(thread) => Started::Running(Running { thread, book, seat }),
+            Err(refused) => {
+                let _ = book.shutdown(&rt, &mut seat);
+                let serve = refused.value;
+                let (listener, _) = serve();
+                Started::Refused(listener)
+            }
         }
     }
 }
@@ -187,6 +174,18 @@ pub fn close_all<R: Wait>(rt: &R, running: &mut [Running<R>]) {
     }
 }
 
+/// Why a listener ended by itself, in words.
+fn fault_text(end: HostEnd) -> Option<&'static str>
+    ensures none { end ≡ HostEnd.Done → result ≡ None }
+    ensures some { end ≢ HostEnd.Done → IsSome result }
+{
+    match end {
+        HostEnd::Done => None,
+        HostEnd::HostFault => Some("an accept, a thread, a receive or a send failed"),
+        HostEnd::OutOfMemory => Some("out of memory"),
+    }
+}
+
 /// Takes the listeners back, each once it has ended.
 pub fn take_back<R: Threads + Log + Drop>(
     rt: &R,
@@ -196,8 +195,8 @@ pub fn take_back<R: Threads + Log + Drop>(
     let mut listeners = Vec::new(alloc);
     for one in running {
         let (listener, end) = one.join(rt);
-        if end != HostEnd::Done {
-            error!(rt; "{}: an accept, a thread, a receive or a send failed", SocketAddrText(listener.address));
+        if let Some(fault) = fault_text(end) {
+            error!(rt; "{}: {fault}", SocketAddrText(listener.address));
         }
         listeners.push(listener)?;
     }

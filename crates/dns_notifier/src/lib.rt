@@ -1,20 +1,22 @@
 //! NOTIFY to those who are to know of a new serial (RFC 1996), over sockets.
 //!
-//! - `Notifier` knows of which serials was told. `tell_changes` tells the addresses of each zone that is served with another
-//!   serial than before. `look` takes the answers that came, and sends again what wasn't answered.
+//! - `Notifier` knows the serials that were announced. `tell_changes` announces each zone that is served with another serial than
+//!   before to its addresses. `look` takes the answers that came, and sends what waits and what wasn't answered.
 //! - `serial_of` is the serial of a zone that is served.
 //!
 //! ```text
-//! a new generation -> tell_changes -> NOTIFY -> look: answered | sent again | given up
+//! a new generation -> tell_changes -> wait -> look: NOTIFY -> look: answered | sent again | given up
 //! ```
 //!
-//! A NOTIFY is sent five times at most, 15 s after each other (RFC 1996, section 3.6). Each has a socket and an identifier of
-//! its own. What is told, answered and given up is logged. One address that can't be told doesn't keep the others from it.
+//! A NOTIFY is sent five times at most, 15 s after each other: sooner and no more often than RFC 1996, section 3.6, has as defaults.
+//! Each has a socket and an identifier of its own. One without a socket counts as lost, and is sent again. At most 20 are on their
+//! way at once, and the others wait in order. What is told, answered and given up is logged.
 //!
 //! Moments are milliseconds since any moment that the owner picks.
 //!
 //! # What is proved
 //!
+//! - Behind `tell_changes` the serials of all zones that are served are known as announced.
 //! - Each function is safe and returns. What an answer is, and when it is sent again, is proved of `Asking` of dns_forward.
 //!
 //! # What a body could still get away with
@@ -22,7 +24,9 @@
 //! No clause says what a socket gives or takes. That each address of a new serial is told is a test's matter (`tools/zoned`).
 #![tactic(auto)]
 
+mod known;
 mod notifier;
 mod pending;
 
-pub use notifier::{Notifier, serial_of};
+pub use known::serial_of;
+pub use notifier::Notifier;

@@ -1,15 +1,19 @@
 //! A NOTIFY that wasn't answered yet.
 
+ghost use Rattle.std.specs.Prelude.{◌≤◌, length};
+
 use anyhow::bail;
 use dns_forward::{Asking, Ticked};
 use dns_name::{Name, OutOfMemory, SocketAddr};
 use dns_secondary::zone_notify;
-use dns_socket_addr::{to_std, unspecified_like};
+use dns_socket_addr::{SocketAddrText, to_std, unspecified_like};
+use log::{Log, error};
 use std::alloc::Global;
 use std::net::{Net, UdpSocket};
 use std::random::RandomSource;
 
-/// How often a NOTIFY is sent, and how long an answer is waited for each time (RFC 1996, section 3.6).
+/// How often a NOTIFY is sent, and how long an answer is waited for each time: sooner and no more often than RFC 1996, section 3.6,
+/// has as defaults.
 const TRIES: u8 = 5;
 
 const WAIT_MILLIS: u64 = 15_000;
@@ -22,7 +26,8 @@ const ANSWER_SIZE: usize = 1_232;
 pub(crate) struct PendingNotify {
     pub(crate) apex: Name,
     pub(crate) to: SocketAddr,
-    socket: UdpSocket,
+    /// None where none could be opened yet.
+    socket: Option<UdpSocket>,
     asking: Asking,
 }
 
@@ -37,12 +42,25 @@ pub(crate) enum NotifyState {
     GaveUp,
 }
 
-/// A socket from which an address can be told.
+/// A socket from which messages go to an address.
 fn socket_for<R: Net>(net: &R, to: SocketAddr) -> anyhow::Result<UdpSocket> {
     let socket = UdpSocket::bind(net, to_std(unspecified_like(to)))?;
     socket.connect(to_std(to))?;
     socket.set_nonblocking(true)?;
     Ok(socket)
+}
+
+/// How many octets came at a socket, if there is one and some came.
+fn received(socket: &Option<UdpSocket>, buffer: &mut [u8]) -> usize
+    ensures { result ≤ length buffer.old }
+{
+    match socket {
+        Some(socket) => match socket.recv(buffer) {
+            Ok(count) => count,
+            Err(_) => 0,
+        },
+        None => 0,
+    }
 }
 
 /// An identifier that is hard to guess.
@@ -65,30 +83,44 @@ fn asking_of(alloc: Global, apex: &Name, id: u16, now: u64) -> anyhow::Result<As
 
 impl PendingNotify {
     /// Tells an address of a zone.
-    pub(crate) fn begin<R: Net + RandomSource>(
+    pub(crate) fn begin<R: Net + RandomSource + Log>(
         rt: &R,
         alloc: Global,
-        apex: &Name,
+        apex: Name,
         to: SocketAddr,
         now: u64,
     ) -> anyhow::Result<PendingNotify> {
         let id = identifier(rt)?;
-        let asking = asking_of(alloc, apex, id, now)?;
-        let apex = apex.try_clone(alloc)?;
-        let socket = socket_for(rt, to)?;
-        let notify = PendingNotify {
+        let asking = asking_of(alloc, &apex, id, now)?;
+        let mut notify = PendingNotify {
             apex,
             to,
-            socket,
+            socket: None,
             asking,
         };
-        notify.send();
+        notify.send(rt);
         Ok(notify)
     }
 
+    /// Opens its socket, if that isn't open. What keeps it from that is logged.
+    fn open_socket<R: Net + Log>(&mut self, rt: &R) {
+        if self.socket.is_some() {
+            return;
+        }
+        match socket_for(rt, self.to) {
+            Ok(socket) => self.socket = Some(socket),
+            Err(fault) => {
+                error!(rt; "{}: NOTIFY to {}: {fault:#}", self.apex, SocketAddrText(self.to))
+            }
+        }
+    }
+
     /// Sends it. One that can't be sent is as one that was lost.
-    fn send(&self) {
-        let _ = self.socket.send(self.asking.octets());
+    fn send<R: Net + Log>(&mut self, rt: &R) {
+        self.open_socket(rt);
+        if let Some(socket) = &self.socket {
+            let _ = socket.send(self.asking.octets());
+        }
     }
 
     /// The response code of octets that are its answer.
@@ -107,21 +139,24 @@ impl PendingNotify {
     /// Looks whether it was answered.
     fn hear(&mut self, alloc: Global, now: u64) -> Result<Option<u8>, OutOfMemory> {
         let mut buffer = [0u8; ANSWER_SIZE];
-        match self.socket.recv(&mut buffer) {
-            Ok(count) => self.code_of(alloc, now, &buffer[..count]),
-            Err(_) => Ok(None),
-        }
+        let count = received(&self.socket, &mut buffer);
+        self.code_of(alloc, now, &buffer[..count])
     }
 
     /// Looks whether it was answered, and sends it again where that is due.
-    pub(crate) fn look(&mut self, alloc: Global, now: u64) -> Result<NotifyState, OutOfMemory> {
+    pub(crate) fn look<R: Net + Log>(
+        &mut self,
+        rt: &R,
+        alloc: Global,
+        now: u64,
+    ) -> Result<NotifyState, OutOfMemory> {
         if let Some(code) = self.hear(alloc, now)? {
             return Ok(NotifyState::Answered(code));
         }
         match self.asking.tick(now) {
             Ticked::Nothing => Ok(NotifyState::Waiting),
             Ticked::Send => {
-                self.send();
+                self.send(rt);
                 Ok(NotifyState::Waiting)
             }
             Ticked::GaveUp => Ok(NotifyState::GaveUp),

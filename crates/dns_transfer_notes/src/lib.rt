@@ -1,12 +1,13 @@
 //! What becomes of questions for transfers, as it is noted for a log.
 //!
 //! - `NotingSvc` is a layer round a service. It changes nothing. Of each request over a stream that asks for a transfer it
-//!   notes whether that begins, when it has ended, and that it is refused.
+//!   notes whether that begins and that it is refused. Of a transfer it notes its end, and whether it was broken off.
 //! - `TransferNotes` are the notes, which threads share. `next` takes one out. `begun` and `refused` count them.
 //! - `TransferNote` is a note: the zone, the client and what happened.
 //!
 //! ```text
 //! request for a transfer -> the first reply: Begun, or Refused with its code -> the last reply: Ended
+//!                                                                            -> the connection ends before: BrokenOff
 //! ```
 //!
 //! It stands round `wrap` of dns_middleware, or round a layer that stands round it. A datagram is never transferred, and

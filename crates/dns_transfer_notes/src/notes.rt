@@ -17,6 +17,8 @@ pub enum TransferNews {
     Begun,
     /// The last reply was given.
     Ended,
+    /// Its connection ended before the last reply was given.
+    BrokenOff,
     /// The first reply has another response code than NOERROR.
     Refused(Rcode),
 }
@@ -53,7 +55,7 @@ impl TransferNotes {
         let _ = match news {
             TransferNews::Begun => self.begun.fetch_add(1, Ordering::SeqCst),
             TransferNews::Refused(_) => self.refused.fetch_add(1, Ordering::SeqCst),
-            TransferNews::Ended => 0,
+            TransferNews::Ended | TransferNews::BrokenOff => 0,
         };
     }
 

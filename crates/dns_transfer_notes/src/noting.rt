@@ -117,11 +117,31 @@ impl Asked {
     }
 
     /// Notes the end, where a transfer began.
-    fn hear_end<R: Wait>(&mut self, rt: &R, alloc: Global) {
-        if self.state == State::Begun {
-            self.state = State::Over;
-            self.note(rt, alloc, TransferNews::Ended);
+    fn end<R: Wait>(self, rt: &R, news: TransferNews) {
+        let Asked {
+            apex,
+            client,
+            notes,
+            state,
+        } = self;
+        if state == State::Begun {
+            notes.put(rt, TransferNote { apex, client, news });
         }
+    }
+}
+
+/// Notes the end of a transfer, if it wasn't noted yet.
+fn note_end<R: Wait>(rt: &R, asked: Option<Asked>, news: TransferNews) {
+    if let Some(asked) = asked {
+        asked.end(rt, news);
+    }
+}
+
+/// How a transfer ends that is let go with at most so many items left. The last item only says that it has ended.
+fn news_at(left: Option<usize>) -> TransferNews {
+    match left {
+        Some(0) | Some(1) => TransferNews::Ended,
+        _ => TransferNews::BrokenOff,
     }
 }
 
@@ -132,12 +152,14 @@ fn hear<R: Wait>(
     asked: &mut Option<Asked>,
     polled: &Polled<Option<ServiceResult>>,
 ) {
-    if let Some(asked) = asked {
-        match polled {
-            Polled::Ready(Some(item)) => asked.hear_item(rt, alloc, item),
-            Polled::Ready(None) => asked.hear_end(rt, alloc),
-            Polled::Pending => {}
+    match polled {
+        Polled::Ready(Some(item)) => {
+            if let Some(asked) = asked {
+                asked.hear_item(rt, alloc, item);
+            }
         }
+        Polled::Ready(None) => note_end(rt, asked.take(), TransferNews::Ended),
+        Polled::Pending => {}
     }
 }
 
@@ -149,12 +171,19 @@ pub struct NotingFuture<R, F> {
     asked: Option<Asked>,
 }
 
-/// The stream of a service whose transfers are noted.
-#[derive(Drop)]
-pub struct NotingStream<R, T> {
+/// The stream of a service whose transfers are noted. One that is let go notes how its transfer ends.
+pub struct NotingStream<R: Wait + Copy, T: ReplyStream> {
     rt: R,
     inner: T,
     asked: Option<Asked>,
+}
+
+impl<R: Wait + Copy, T: ReplyStream> Drop for NotingStream<R, T> {
+    fn drop(self) {
+        let NotingStream { rt, inner, asked } = self;
+        let (_, left) = inner.size_hint();
+        note_end(&rt, asked, news_at(left));
+    }
 }
 
 impl<R, S, Meta> Service<Meta> for NotingSvc<R, S>

@@ -1,1 +1,2 @@
 pub mod Secondaries
+pub mod Targets

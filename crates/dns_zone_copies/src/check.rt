@@ -12,7 +12,7 @@ use std::alloc::Global;
 use std::io::{Read, Write};
 use std::net::TcpStream;
 use std::sync::Arc;
-use std::sync::atomic::{AtomicBool, Ordering};
+use std::sync::atomic::AtomicBool;
 
 /// How many messages a transfer has at most.
 const MOST_MESSAGES: u64 = 10_000_000;
@@ -76,12 +76,13 @@ fn ask_soa<S: Read + Write>(
     alloc: Global,
     stream: &mut S,
     apex: &Name,
+    stop: &AtomicBool,
 ) -> anyhow::Result<SoaTimers> {
     match soa_query(alloc, SOA_ID, apex) {
         Ok(query) => send(stream, query)?,
         Err(_) => bail!("out of memory"),
     }
-    let message = receive(alloc, stream)?;
+    let message = receive(alloc, stream, stop)?;
     let mut incoming = IncomingTransfer::new(alloc, SOA_ID, apex.try_clone(alloc)?, 1);
     let _ = take(alloc, &mut incoming, &message)?;
     let records = incoming.into_records();
@@ -118,10 +119,7 @@ fn ask_zone<S: Read + Write>(
     let apex = apex.try_clone(alloc)?;
     let mut incoming = IncomingTransfer::new(alloc, TRANSFER_ID, apex, MOST_RECORDS);
     for _ in 0..MOST_MESSAGES {
-        if stop.load(Ordering::SeqCst) {
-            bail!("the server stops");
-        }
-        let message = receive(alloc, stream)?;
+        let message = receive(alloc, stream, stop)?;
         if let TransferStatus::Done = take(alloc, &mut incoming, &message)? {
             return Ok(incoming.into_records());
         }
@@ -152,7 +150,7 @@ fn outcome(alloc: Global, check: Check) -> anyhow::Result<Checked> {
         copy,
         stop,
     } = check;
-    let timers = ask_soa(alloc, &mut stream, &apex)?;
+    let timers = ask_soa(alloc, &mut stream, &apex, &stop)?;
     if !copy.is_newer(timers.serial) {
         return Ok(Checked::Current(timers));
     }

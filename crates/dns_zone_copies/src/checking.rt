@@ -11,23 +11,45 @@ use std::thread::{self, JoinHandle, Threads};
 pub(crate) struct Checking {
     thread: JoinHandle<Result<Checked, String>>,
     ended: Arc<AtomicBool>,
+    stop: Arc<AtomicBool>,
+    /// When it is given up.
+    deadline: u64,
 }
 
 impl Checking {
-    /// Starts a check.
+    /// Starts a check that is given up at a moment.
     pub(crate) fn start<R: Threads>(
         rt: &R,
         alloc: Global,
         check: Check,
+        deadline: u64,
     ) -> anyhow::Result<Checking> {
         let ended = Arc::new(alloc, AtomicBool::new(false))?;
         let theirs = Arc::try_clone(&ended)?;
+        let stop = Arc::try_clone(&check.stop)?;
         let thread = thread::spawn(rt, move || {
             let checked = run(alloc, check);
             theirs.store(true, Ordering::SeqCst);
             checked
         })?;
-        Ok(Checking { thread, ended })
+        Ok(Checking {
+            thread,
+            ended,
+            stop,
+            deadline,
+        })
+    }
+
+    /// Gives it up: it ends behind the read that it is in.
+    pub(crate) fn give_up(&self) {
+        self.stop.store(true, Ordering::SeqCst);
+    }
+
+    /// Gives it up once its deadline has passed.
+    pub(crate) fn give_up_late(&self, now: u64) {
+        if now >= self.deadline {
+            self.give_up();
+        }
     }
 
     /// Whether it has ended.

@@ -1,71 +1,138 @@
 //! The copies of all zones that a server is secondary of.
 
-ghost use Rattle.std.specs.Prelude.{◌≡◌};
+ghost use Rattle.std.specs.Prelude.{◌≡◌, ◌≤◌, true, IfNone, IfOk, IfSome, OnOk, is_some, string_bytes};
+ghost use Rattle.std.specs.Arc.{arc_value};
+ghost use Rattle.std.specs.List.{position};
+ghost use Rattle.dns_zone_copies.specs.Secondaries.{continued, is_of};
+ghost use Rattle.dns_zone_copies.specs.Targets.{watched_zones};
 
 use crate::checking::Checking;
+use crate::copy_file;
 use crate::secondary::Secondary;
+use crate::target::CopiesTarget;
 use dns_config::{Config, ZoneEntry};
 use dns_generation::ZoneSummary;
-use dns_name::OutOfMemory;
-use dns_secondary_service::NotifyTarget;
+use dns_name::{OutOfMemory, SocketAddr};
+use dns_secondary::SoaTimers;
 use log::Log;
 use std::alloc::{AllocError, Global};
 use std::mem;
 use std::net::Net;
-use std::rt::Files;
+use std::rt::{Clock, Files};
 use std::sync::Arc;
-use std::sync::atomic::{AtomicBool, Ordering};
 use std::thread::Threads;
+
+/// How many checks are going on at once.
+const MOST_CHECKS: usize = 10;
 
 /// The zones that the server is secondary of, and what wakes their checks.
 #[derive(Drop)]
 pub struct Copies {
     secondaries: Vec<Secondary>,
-    target: Arc<NotifyTarget>,
+    target: Arc<CopiesTarget>,
     /// Checks of zones that are no longer configured.
     leaving: Vec<Checking>,
-    /// Set where checks are to be given up.
-    stop: Arc<AtomicBool>,
+    /// Where the secondary stands whose check is begun next, if it is due.
+    next: usize,
 }
 
-/// Where the secondary of an entry stands among these.
-fn place_of(secondaries: &[Secondary], entry: &ZoneEntry) -> Option<usize> {
+/// Where the first secondary of an entry stands among these.
+fn first_of(secondaries: &[Secondary], entry: &ZoneEntry) -> Option<usize>
+    ensures { result ≡ position (is_of entry.now.primary entry.now.name.name) secondaries.now }
+{
     secondaries
         .iter()
         .position(|secondary| secondary.is_of(entry))
 }
 
-/// Takes the secondary of an entry out of these.
-fn taken_out(secondaries: &mut Vec<Secondary>, entry: &ZoneEntry) -> Option<Secondary> {
-    match place_of(secondaries.as_slice(), entry) {
-        Some(place) if place < secondaries.len() => Some(secondaries.swap_remove(place)),
-        _ => None,
+/// Takes the last of these, if it is the secondary of an entry.
+fn last_taken_out(secondaries: &mut Vec<Secondary>, entry: &ZoneEntry) -> Option<Secondary>
+    ensures found { IfSome result (λ s. is_of entry.now.primary entry.now.name.name s ≡ true) }
+    ensures left { IfNone result (secondaries.new.items ≡ secondaries.old.items) }
+{
+    match secondaries.pop() {
+        Some(last) => {
+            if last.is_of(entry) {
+                return Some(last);
+            }
+            secondaries.push_reserved(last);
+            None
+        }
+        None => None,
+    }
+}
+
+/// Takes the first of these that is the secondary of an entry.
+#[tactic(auto, using(crate::proofs::Places::position_passes, crate::proofs::Places::position_within))]
+fn first_taken_out(secondaries: &mut Vec<Secondary>, entry: &ZoneEntry) -> Option<Secondary>
+    ensures found { IfSome result (λ s. is_of entry.now.primary entry.now.name.name s ≡ true) }
+    ensures none { IfNone result (position (is_of entry.now.primary entry.now.name.name) secondaries.old.items ≡ None) }
+    ensures left { IfNone result (secondaries.new.items ≡ secondaries.old.items) }
+{
+    match first_of(secondaries.as_slice(), entry) {
+        Some(place) => Some(secondaries.remove(place)),
+        None => None,
+    }
+}
+
+/// Takes the secondary of an entry out of these. It is looked for at the end first.
+fn taken_out(secondaries: &mut Vec<Secondary>, entry: &ZoneEntry) -> Option<Secondary>
+    ensures found { IfSome result (λ s. is_of entry.now.primary entry.now.name.name s ≡ true) }
+    ensures none { IfNone result (position (is_of entry.now.primary entry.now.name.name) secondaries.old.items ≡ None) }
+    ensures left { IfNone result (secondaries.new.items ≡ secondaries.old.items) }
+{
+    match last_taken_out(secondaries, entry) {
+        Some(last) => Some(last),
+        None => first_taken_out(secondaries, entry),
+    }
+}
+
+/// The secondary of an entry with a primary: the one that was there before, if it was, and else a new one. What is served was
+/// current at a moment.
+fn continued(
+    alloc: Global,
+    before: Option<Secondary>,
+    entry: &ZoneEntry,
+    primary: SocketAddr,
+    served: Option<SoaTimers>,
+    current: u64,
+    now: u64,
+) -> Result<Secondary, OutOfMemory>
+    ensures { IfOk result (λ s. s ≡ continued before entry.now.name.name primary (string_bytes entry.now.file) served current now) }
+{
+    match before {
+        Some(mut secondary) => {
+            secondary.follow(alloc, entry, served, current, now)?;
+            Ok(secondary)
+        }
+        None => Secondary::new(alloc, entry, primary, served, current),
     }
 }
 
 /// The secondary of an entry, if that has a primary: one of these, where it was there before.
-fn followed(
+fn secondary_of<R: Files + Clock>(
+    rt: &R,
     alloc: Global,
     before: &mut Vec<Secondary>,
     entry: &ZoneEntry,
     summary: &ZoneSummary,
     now: u64,
-) -> Result<Option<Secondary>, OutOfMemory> {
+) -> Result<Option<Secondary>, OutOfMemory>
+    ensures { IfOk result (λ o. is_some o ≡ is_some entry.now.primary) }
+{
     let primary = match entry.primary {
         Some(endpoint) => endpoint.address,
         None => return Ok(None),
     };
-    match taken_out(before, entry) {
-        Some(mut secondary) => {
-            secondary.follow(summary, now);
-            Ok(Some(secondary))
-        }
-        None => Ok(Some(Secondary::new(alloc, entry, primary, summary, now)?)),
-    }
+    let found = taken_out(before, entry);
+    let current = copy_file::current(rt, entry.file.as_str(), now);
+    let secondary = continued(alloc, found, entry, primary, summary.timers, current, now)?;
+    Ok(Some(secondary))
 }
 
 /// The secondaries of a configuration with these summaries, those of before taken out of these.
-fn follow_all(
+fn follow_all<R: Files + Clock>(
+    rt: &R,
     alloc: Global,
     before: &mut Vec<Secondary>,
     config: &Config,
@@ -73,8 +140,9 @@ fn follow_all(
     now: u64,
 ) -> Result<Vec<Secondary>, OutOfMemory> {
     let mut secondaries = Vec::new(alloc);
+    before.reverse();
     for (entry, summary) in config.zone.iter().zip(summaries.iter()) {
-        if let Some(secondary) = followed(alloc, before, entry, summary, now)? {
+        if let Some(secondary) = secondary_of(rt, alloc, before, entry, summary, now)? {
             secondaries.push(secondary)?;
         }
     }
@@ -82,46 +150,72 @@ fn follow_all(
 }
 
 /// The target of NOTIFY for some zones.
-fn target_of(alloc: Global, secondaries: &[Secondary]) -> Result<Arc<NotifyTarget>, OutOfMemory> {
-    let mut zones = Vec::new(alloc);
-    for secondary in secondaries {
-        zones.push(secondary.watched(alloc)?)?;
-    }
-    let target = NotifyTarget::new(alloc, zones)?;
+fn target_of(alloc: Global, secondaries: &[Secondary]) -> Result<Arc<CopiesTarget>, OutOfMemory>
+    ensures { IfOk result (λ t. (arc_value t).zones.items ≡ watched_zones secondaries.now) }
+{
+    let target = CopiesTarget::of(alloc, secondaries)?;
     Ok(Arc::new(alloc, target)?)
 }
 
-/// Looks at each copy, those that were woken first of all. Whether another one, or none, is served from now on.
-fn look_at_all<R: Net + Files + Log + Threads>(
+/// Looks at each copy. Whether another one, or none, is served from now on.
+fn look_at_all<R: Files + Clock + Log + Threads>(
     rt: &R,
     alloc: Global,
     secondaries: &mut [Secondary],
-    target: &NotifyTarget,
-    stop: &Arc<AtomicBool>,
     now: u64,
 ) -> bool {
     let mut changed = false;
-    for (index, secondary) in secondaries.iter_mut().enumerate() {
-        if target.take_woken(index) {
-            secondary.wake(rt);
-        }
-        if secondary.look(rt, alloc, stop, now) {
+    for secondary in secondaries {
+        if secondary.look(rt, alloc, now) {
             changed = true;
         }
     }
     changed
 }
 
+/// Begins checks that are due, in order, while there is room for them: how many secondaries were looked at, and how much room is
+/// left.
+fn begin_checks<R: Net + Log + Threads>(
+    rt: &R,
+    alloc: Global,
+    secondaries: &mut [Secondary],
+    room: usize,
+    now: u64,
+) -> (usize, usize)
+    ensures { result.1 ≤ room }
+{
+    let mut left = room;
+    let count = secondaries.len();
+    'each: for (place, secondary) in secondaries.iter_mut().enumerate() {
+        if left == 0 {
+            return (place, 0);
+        }
+        if secondary.begin_due(rt, alloc, now) {
+            left -= 1;
+        }
+    }
+    (count, left)
+}
+
+/// Gives up the checks of zones that are no longer configured, and puts them behind those that leave.
+fn leave(leaving: &mut Vec<Checking>, before: Vec<Secondary>) -> Result<(), OutOfMemory> {
+    for secondary in before {
+        if let Some(checking) = secondary.into_checking() {
+            checking.give_up();
+            leaving.push(checking)?;
+        }
+    }
+    Ok(())
+}
+
 impl Copies {
     /// No copy yet.
     pub fn new(alloc: Global) -> Result<Copies, OutOfMemory> {
-        let target = target_of(alloc, &[])?;
-        let stop = Arc::new(alloc, AtomicBool::new(false))?;
         Ok(Copies {
             secondaries: Vec::new(alloc),
-            target,
+            target: target_of(alloc, &[])?,
             leaving: Vec::new(alloc),
-            stop,
+            next: 0,
         })
     }
 
@@ -133,35 +227,39 @@ impl Copies {
     }
 
     /// The target of NOTIFY.
-    pub fn target(&self) -> &Arc<NotifyTarget>
+    pub fn target(&self) -> &Arc<CopiesTarget>
         ensures { result.now ≡ self.now.target }
     {
         &self.target
     }
 
-    /// Keeps the checks of zones that are no longer configured, until they end.
-    fn leave(&mut self, before: Vec<Secondary>) -> Result<(), OutOfMemory> {
-        for secondary in before {
-            if let Some(checking) = secondary.into_checking() {
-                self.leaving.push(checking)?;
-            }
-        }
-        Ok(())
-    }
-
     /// Goes on to the zones of a configuration with these summaries. A zone that was there before with its primary keeps what is
-    /// known of its copy.
-    pub fn follow(
+    /// known of its copy, where that is served.
+    pub fn follow<R: Files + Clock>(
         &mut self,
+        rt: &R,
         alloc: Global,
         config: &Config,
         summaries: &[ZoneSummary],
         now: u64,
-    ) -> Result<(), OutOfMemory> {
+    ) -> Result<(), OutOfMemory>
+        ensures { OnOk result ((arc_value self.new.target).zones.items ≡ watched_zones self.new.secondaries.items) }
+    {
         let mut before = mem::replace(&mut self.secondaries, Vec::new(alloc));
-        self.secondaries = follow_all(alloc, &mut before, config, summaries, now)?;
+        self.secondaries = follow_all(rt, alloc, &mut before, config, summaries, now)?;
         self.target = target_of(alloc, self.secondaries.as_slice())?;
-        self.leave(before)
+        leave(&mut self.leaving, before)
+    }
+
+    /// Discards the copies that are obsolete. Whether there were any.
+    pub fn discard_obsolete<R: Log>(&mut self, rt: &R, now: u64) -> bool {
+        let mut discarded = false;
+        for secondary in self.secondaries.iter_mut() {
+            if secondary.discard(rt, now) {
+                discarded = true;
+            }
+        }
+        discarded
     }
 
     /// Ends the checks of zones that are no longer configured, where they are done.
@@ -177,16 +275,42 @@ impl Copies {
         Ok(())
     }
 
-    /// Looks at each copy. Whether another one, or none, is served from now on.
-    pub fn look<R: Net + Files + Log + Threads>(
+    /// How many checks can be begun.
+    fn room(&self) -> usize {
+        let mut room = MOST_CHECKS.saturating_sub(self.leaving.len());
+        for secondary in self.secondaries.iter() {
+            if secondary.is_checking() {
+                room = room.saturating_sub(1);
+            }
+        }
+        room
+    }
+
+    /// Begins the checks that are due, from the next one on.
+    fn begin_next<R: Net + Log + Threads>(&mut self, rt: &R, alloc: Global, now: u64) {
+        let room = self.room();
+        let next = self.next.min(self.secondaries.len());
+        let (first, last) = self.secondaries.as_mut_slice().split_at_mut(next);
+        let (count, left) = begin_checks(rt, alloc, last, room, now);
+        self.next = next.saturating_add(count);
+        if left > 0 {
+            let (count, _) = begin_checks(rt, alloc, first, left, now);
+            self.next = count;
+        }
+    }
+
+    /// Looks at each copy, and begins the checks that are due, as many as may go on at once. Whether another copy, or none, is
+    /// served from now on.
+    pub fn look<R: Net + Files + Clock + Log + Threads>(
         &mut self,
         rt: &R,
         alloc: Global,
         now: u64,
     ) -> Result<bool, OutOfMemory> {
         self.look_at_leaving(rt, alloc)?;
-        let secondaries = self.secondaries.as_mut_slice();
-        Ok(look_at_all(rt, alloc, secondaries, &self.target, &self.stop, now))
+        let changed = look_at_all(rt, alloc, self.secondaries.as_mut_slice(), now);
+        self.begin_next(rt, alloc, now);
+        Ok(changed)
     }
 
     /// What is said of each copy.
@@ -198,21 +322,28 @@ impl Copies {
         Ok(text)
     }
 
-    /// Ends all checks, each of which is waited for.
+    /// Gives all checks up, and waits for the end of each.
     pub fn end<R: Threads>(self, rt: &R) {
         let Copies {
             secondaries,
             leaving,
-            stop,
             ..
         } = self;
-        stop.store(true, Ordering::SeqCst);
-        join_all(rt, leaving);
+        let mut checks = leaving;
         for secondary in secondaries {
             if let Some(checking) = secondary.into_checking() {
-                let _ = checking.join(rt);
+                checking.give_up();
+                join_next(rt, &mut checks, checking);
             }
         }
+        join_all(rt, checks);
+    }
+}
+
+/// Puts a check behind others whose end is waited for; where there is no memory, its end is waited for at once.
+fn join_next<R: Threads>(rt: &R, checks: &mut Vec<Checking>, checking: Checking) {
+    if let Err(refused) = checks.push(checking) {
+        let _ = refused.value.join(rt);
     }
 }
 

@@ -1,7 +1,9 @@
 //! The copies that a secondary server keeps of its zones (RFC 1034, section 4.3.5), over sockets, files and threads.
 //!
 //! - `Copies` are the zones of a configuration that have a primary. `follow` goes on to the zones of another configuration,
-//!   `look` does what is due, and `end` ends all checks. `target` is the target of NOTIFY (RFC 1996).
+//!   `look` does what is due, `discard_obsolete` discards copies alone, and `end` ends all checks.
+//! - `CopiesTarget` is the target of NOTIFY (RFC 1996). What a NOTIFY marks is the zone's secondary, so that it stays where
+//!   another target takes the place of one.
 //! - `Secondary` is one zone and its copy.
 //!
 //! ```text
@@ -11,14 +13,21 @@
 //! ```
 //!
 //! A check is a connection to the primary in a thread of its own. It asks for the SOA record first, and for the zone where that
-//! is newer (RFC 1982). What comes is judged as a zone file is. The file of a copy is replaced by a rename.
+//! is newer (RFC 1982). What comes is judged as a zone file is. The file of a copy is replaced by a rename. At most 10 checks go
+//! on at once, and the others wait in order. One that takes 10 minutes is given up.
 //!
-//! Moments are seconds since any moment that the owner picks. What comes of checks is logged.
+//! The file of a copy was written last when the copy came or was found current last. So EXPIRE doesn't begin anew where the
+//! server does.
+//!
+//! Moments are seconds since a moment that the owner picks, before each file was written. What comes of checks is logged.
 //!
 //! # What is proved
 //!
 //! - The copy of a zone is told from others by its name and by the address and port of its primary (`is_of`).
-//! - A zone that came replaces the copy only if its serial is newer; else the copy stays as it is (`take`).
+//! - What comes of a check is offered to the copy: a zone that came replaces it only if its serial is newer and its file is
+//!   written; else what is held stays (`take`).
+//! - The copy that is held is the one that is served (`follow`). It stays with what is known of it.
+//! - The target of NOTIFY has the zones and the primaries of all secondaries.
 //! - Which check is due when, and when a copy is discarded, is proved of `ZoneCopy` of dns_secondary. What comes of the
 //!   messages of a transfer is proved of dns_incoming.
 //!
@@ -31,8 +40,11 @@
 mod check;
 mod checking;
 mod copies;
+mod copy_file;
 mod primary;
 mod secondary;
+mod target;
 
 pub use copies::Copies;
 pub use secondary::Secondary;
+pub use target::{CopiesTarget, Decided};

@@ -8,6 +8,7 @@ use dns_socket_addr::to_std;
 use std::alloc::Global;
 use std::io::{Read, Write};
 use std::net::{Net, TcpStream};
+use std::sync::atomic::{AtomicBool, Ordering};
 use std::time::Duration;
 
 /// How long a connection, a read or a write may take.
@@ -30,13 +31,33 @@ pub(crate) fn send<S: Write>(stream: &mut S, message: AdditionalBuilder) -> anyh
     Ok(())
 }
 
-/// Receives a message.
-pub(crate) fn receive<S: Read>(alloc: Global, stream: &mut S) -> anyhow::Result<Message> {
+/// Fills a buffer, unless that is to be given up.
+fn fill<S: Read>(stream: &mut S, stop: &AtomicBool, buffer: &mut [u8]) -> anyhow::Result<()> {
+    let mut filled = 0;
+    'each: while filled < buffer.len() {
+        if stop.load(Ordering::SeqCst) {
+            bail!("the check was given up");
+        }
+        let count = stream.read(&mut buffer[filled..])?;
+        if count == 0 {
+            bail!("the connection ended");
+        }
+        filled += count;
+    }
+    Ok(())
+}
+
+/// Receives a message, unless that is to be given up.
+pub(crate) fn receive<S: Read>(
+    alloc: Global,
+    stream: &mut S,
+    stop: &AtomicBool,
+) -> anyhow::Result<Message> {
     let mut length = [0u8; 2];
-    stream.read_exact(&mut length)?;
+    fill(stream, stop, &mut length)?;
     let count = u16::from_be_bytes(length) as usize;
     let mut octets = vec![in alloc; 0u8; count]?;
-    stream.read_exact(octets.as_mut_slice())?;
+    fill(stream, stop, octets.as_mut_slice())?;
     match Message::from_octets(octets) {
         Ok(message) => Ok(message),
         Err(_) => bail!("a message is too short"),

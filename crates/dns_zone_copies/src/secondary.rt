@@ -1,30 +1,33 @@
 //! Zones that the server is secondary of.
 
-ghost use Rattle.std.specs.Prelude.{◌≡◌, ◌&&◌, IfOk, is_none, is_some};
+ghost use Rattle.std.specs.Prelude.{◌≡◌, ◌&&◌, true, IfOk, OnErr, OnOk, is_none, is_some, string_bytes};
 ghost use Rattle.std.specs.Bool.{OnFalse, OnTrue};
+ghost use Rattle.std.specs.Str.{bytes_eq};
 ghost use Rattle.dns_name.specs.Canonical.{same_name};
-ghost use Rattle.dns_secondary.specs.Copies.{is_obsolete, offered, without_obsolete, woken};
+ghost use Rattle.dns_secondary.specs.Copies.{is_newer, is_obsolete, without_obsolete, woken};
 ghost use Rattle.dns_socket_addr.specs.SocketAddresses.{same_socket_addr};
-ghost use Rattle.dns_zone_copies.specs.Secondaries.{begun, followed, is_entry_of};
+ghost use Rattle.dns_zone_copies.specs.Secondaries.{Takes, begun, copy_followed, followed, is_entry_of, is_held, lacks_copy, passed_over, same_timers, with_offer};
 
 use crate::check::{Check, Checked};
 use crate::checking::Checking;
+use crate::copy_file;
 use crate::primary::connect;
 use dns_config::ZoneEntry;
-use dns_generation::ZoneSummary;
 use dns_name::{Name, OutOfMemory, SocketAddr};
 use dns_secondary::{SoaTimers, WatchedZone, ZoneCopy};
 use dns_socket_addr::{SocketAddrText, same_socket_addr};
-use log::{Log, error, info};
+use log::{Log, error, info, warn};
 use std::alloc::{AllocError, Global};
 use std::fmt::Write;
-use std::fs;
 use std::marker::Model;
 use std::net::Net;
-use std::rt::Files;
+use std::rt::{Clock, Files};
 use std::sync::Arc;
-use std::sync::atomic::AtomicBool;
+use std::sync::atomic::{AtomicBool, Ordering};
 use std::thread::Threads;
+
+/// How long a check may take, in seconds.
+const LONGEST_CHECK: u64 = 600;
 
 /// A zone that the server is secondary of, and its copy.
 #[derive(Drop)]
@@ -33,15 +36,23 @@ pub struct Secondary {
     primary: SocketAddr,
     file: String,
     copy: ZoneCopy,
+    /// Set by each NOTIFY of the zone, until it is looked at.
+    mark: Arc<AtomicBool>,
     checking: Option<Checking>,
 }
 
 impl Model for Secondary {
+    ghost use Rattle.std.specs.Prelude.{string_bytes};
     ghost use Rattle.dns_zone_copies.specs.Secondaries.{SecondaryState};
 
     ghost Value = { SecondaryState };
 
-    ghost view = { λ s. record { apex = s.apex; primary = s.primary; copy = s.copy } };
+    ghost view = { λ s. record {
+      apex = s.apex;
+      primary = s.primary;
+      file = string_bytes s.file;
+      copy = s.copy;
+    } };
 }
 
 /// Whether an entry of the configuration is of a zone with this apex and this primary.
@@ -56,23 +67,34 @@ fn is_entry_of(entry: &ZoneEntry, apex: &Name, primary: SocketAddr) -> bool
     }
 }
 
+/// Whether two SOA records say equal things of copies.
+fn same_timers(one: SoaTimers, other: SoaTimers) -> bool
+    ensures { result ≡ same_timers one other }
+{
+    one.serial.into_int() == other.serial.into_int()
+        && one.refresh == other.refresh
+        && one.retry == other.retry
+        && one.expire == other.expire
+}
+
 impl Secondary {
-    /// The secondary of an entry that has this primary. It begins with the copy of the summary.
+    /// The secondary of an entry that has this primary. It begins with the copy that is served, which was current at a moment.
     pub(crate) fn new(
         alloc: Global,
         entry: &ZoneEntry,
         primary: SocketAddr,
-        summary: &ZoneSummary,
-        now: u64,
+        served: Option<SoaTimers>,
+        current: u64,
     ) -> Result<Secondary, OutOfMemory>
-        ensures { IfOk result (λ s. s ≡ begun entry.now.name.name primary summary.now.timers now) }
+        ensures { IfOk result (λ s. s ≡ begun entry.now.name.name primary (string_bytes entry.now.file) served current) }
     {
         let file = String::from_str(alloc, entry.file.as_str())?;
         Ok(Secondary {
             apex: entry.name.name.try_clone(alloc)?,
             primary,
             file,
-            copy: ZoneCopy::new(primary.ip, summary.timers, now),
+            copy: ZoneCopy::new(primary.ip, served, current),
+            mark: Arc::new(alloc, AtomicBool::new(false))?,
             checking: None,
         })
     }
@@ -91,6 +113,33 @@ impl Secondary {
         self.copy.held().is_some()
     }
 
+    /// Whether it is the secondary of an entry, and has no copy in the entry's file.
+    pub fn lacks_copy_of(&self, entry: &ZoneEntry) -> bool
+        ensures { result ≡ lacks_copy entry.now.primary entry.now.name.name (string_bytes entry.now.file) self.now }
+    {
+        self.is_of(entry) && entry.file.as_str() == self.file.as_str() && self.copy.held().is_none()
+    }
+
+    /// Whether these are what the SOA record of the copy says.
+    pub(crate) fn is_held(&self, timers: SoaTimers) -> bool
+        ensures { result ≡ is_held self.now.copy.held timers }
+    {
+        match self.copy.held() {
+            Some(held) => same_timers(held, timers),
+            None => false,
+        }
+    }
+
+    /// What each NOTIFY of the zone sets.
+    pub(crate) fn mark(&self) -> &Arc<AtomicBool> {
+        &self.mark
+    }
+
+    /// Whether a check is going on.
+    pub(crate) fn is_checking(&self) -> bool {
+        self.checking.is_some()
+    }
+
     /// The zone and its primary, for NOTIFY.
     pub(crate) fn watched(&self, alloc: Global) -> Result<WatchedZone, OutOfMemory>
         ensures { IfOk result (λ w. w ≡ record { apex = self.now.apex; primary = self.now.primary.ip }) }
@@ -107,21 +156,54 @@ impl Secondary {
     }
 
     /// Wakes the check of the copy.
-    pub(crate) fn wake<R: Log>(&mut self, rt: &R)
+    fn wake<R: Log>(&mut self, rt: &R)
         ensures { self.new ≡ record self.old { copy = woken self.old.copy } }
     {
         info!(rt; "{}: NOTIFY from its primary", self.apex);
         self.copy.wake();
     }
 
-    /// Forgets a copy that isn't served, and waits before another one is asked for.
-    pub(crate) fn follow(&mut self, summary: &ZoneSummary, now: u64)
-        ensures { self.new ≡ followed self.old summary.now.timers now }
-    {
-        if summary.timers.is_none() && self.has_copy() {
-            self.copy = ZoneCopy::new(self.primary.ip, None, now);
-            self.copy.begin(now);
+    /// Wakes the check of the copy, if a NOTIFY came since this was asked last.
+    fn wake_marked<R: Log>(&mut self, rt: &R) {
+        if self.mark.swap(false, Ordering::SeqCst) {
+            self.wake(rt);
         }
+    }
+
+    /// Goes on to the copy that is served, which was current at a moment.
+    fn follow_copy(&mut self, served: Option<SoaTimers>, current: u64, now: u64)
+        ensures { self.new ≡ record self.old { copy = copy_followed self.old.primary.ip self.old.copy served current now } }
+    {
+        match served {
+            Some(timers) => {
+                if !self.is_held(timers) {
+                    self.copy = ZoneCopy::new(self.primary.ip, served, current);
+                }
+            }
+            None => {
+                if self.has_copy() {
+                    self.copy = ZoneCopy::new(self.primary.ip, None, now);
+                    self.copy.begin(now);
+                }
+            }
+        }
+    }
+
+    /// Goes on to the file of an entry and to the copy that is served of it, which was current at a moment.
+    pub(crate) fn follow(
+        &mut self,
+        alloc: Global,
+        entry: &ZoneEntry,
+        served: Option<SoaTimers>,
+        current: u64,
+        now: u64,
+    ) -> Result<(), OutOfMemory>
+        ensures ok { OnOk result (self.new ≡ followed self.old (string_bytes entry.now.file) served current now) }
+        ensures err { OnErr result (self.new ≡ self.old) }
+    {
+        self.file = String::from_str(alloc, entry.file.as_str())?;
+        self.follow_copy(served, current, now);
+        Ok(())
     }
 
     /// Appends what is said of the copy.
@@ -145,27 +227,27 @@ impl Secondary {
         }
     }
 
-    /// Writes the file of a copy that came, by a rename.
-    fn keep<R: Files>(&self, rt: &R, alloc: Global, text: &[u8]) -> anyhow::Result<()> {
-        let file = self.file.as_str();
-        let written = format!(in alloc; "{file}.new")?;
-        fs::write(rt, written.as_str(), text)?;
-        fs::rename(rt, written.as_str(), file)?;
-        Ok(())
-    }
-
     /// Whether the file of a copy that came was written. What keeps it from that is logged.
     fn is_kept<R: Files + Log>(&self, rt: &R, alloc: Global, serial: u32, text: &[u8]) -> bool {
-        match self.keep(rt, alloc, text) {
+        let file = self.file.as_str();
+        match copy_file::write(rt, alloc, file, text) {
             Ok(()) => {
                 let primary = SocketAddrText(self.primary);
                 info!(rt; "{}: serial {serial} was transferred from {primary}", self.apex);
                 true
             }
             Err(fault) => {
-                error!(rt; "{}: {}: {fault:#}", self.apex, self.file.as_str());
+                error!(rt; "{}: {file}: {fault:#}", self.apex);
                 false
             }
+        }
+    }
+
+    /// Marks in its file that the copy is current. What keeps it from that is logged.
+    fn keep_current<R: Files + Clock + Log>(&self, rt: &R) {
+        let file = self.file.as_str();
+        if let Err(fault) = copy_file::mark_current(rt, file) {
+            warn!(rt; "{}: {file}: {fault:#}", self.apex);
         }
     }
 
@@ -178,8 +260,9 @@ impl Secondary {
         text: &[u8],
         now: u64,
     ) -> bool
-        ensures taken { OnTrue result (self.new ≡ record self.old { copy = offered self.old.copy timers now }) }
-        ensures left { OnFalse result (self.new ≡ record self.old { copy = self.new.copy } × (self.new.copy.held ≡ self.old.copy.held)) }
+        ensures newer { OnTrue result (is_newer self.old.copy.held timers.serial ≡ true) }
+        ensures taken { OnTrue result (self.new ≡ with_offer self.old timers now) }
+        ensures left { OnFalse result (self.new ≡ passed_over self.old timers now) }
     {
         let serial = timers.serial.into_int();
         if self.copy.is_newer(timers.serial) && !self.is_kept(rt, alloc, serial, text) {
@@ -188,18 +271,27 @@ impl Secondary {
         self.copy.offer(timers, now)
     }
 
+    /// Takes what the SOA record of the primary says of a copy that is current. Whether another copy is served from now on.
+    fn take_current<R: Files + Clock + Log>(&mut self, rt: &R, timers: SoaTimers, now: u64) -> bool
+        ensures newer { result ≡ is_newer self.old.copy.held timers.serial }
+        ensures copy { self.new ≡ with_offer self.old timers now }
+    {
+        self.keep_current(rt);
+        self.copy.offer(timers, now)
+    }
+
     /// Takes what came of a check. Whether another copy is served from now on.
-    fn take<R: Files + Log>(
+    fn take<R: Files + Clock + Log>(
         &mut self,
         rt: &R,
         alloc: Global,
         checked: Result<Checked, String>,
         now: u64,
     ) -> bool
-        ensures left { OnFalse result (self.new ≡ record self.old { copy = self.new.copy } × (self.new.copy.held ≡ self.old.copy.held)) }
+        ensures { Takes checked self.old self.new now result }
     {
         match checked {
-            Ok(Checked::Current(timers)) => self.copy.offer(timers, now),
+            Ok(Checked::Current(timers)) => self.take_current(rt, timers, now),
             Ok(Checked::Came(timers, text)) => {
                 self.take_copy(rt, alloc, timers, text.as_slice(), now)
             }
@@ -226,7 +318,12 @@ impl Secondary {
     }
 
     /// Takes what came of a check that has ended. Whether another copy is served from now on.
-    fn take_ended<R: Files + Log + Threads>(&mut self, rt: &R, alloc: Global, now: u64) -> bool {
+    fn take_ended<R: Files + Clock + Log + Threads>(
+        &mut self,
+        rt: &R,
+        alloc: Global,
+        now: u64,
+    ) -> bool {
         match self.take_check() {
             Some(checking) => {
                 let checked = checking.join(rt);
@@ -237,26 +334,21 @@ impl Secondary {
     }
 
     /// Begins a check.
-    fn begin<R: Net + Threads>(
-        &mut self,
-        rt: &R,
-        alloc: Global,
-        stop: &Arc<AtomicBool>,
-        now: u64,
-    ) -> anyhow::Result<()> {
+    fn begin<R: Net + Threads>(&mut self, rt: &R, alloc: Global, now: u64) -> anyhow::Result<()> {
         self.copy.begin(now);
         let check = Check {
             apex: self.apex.try_clone(alloc)?,
             stream: connect(rt, self.primary)?,
             copy: self.copy,
-            stop: Arc::try_clone(stop)?,
+            stop: Arc::new(alloc, AtomicBool::new(false))?,
         };
-        self.checking = Some(Checking::start(rt, alloc, check)?);
+        let deadline = now.saturating_add(LONGEST_CHECK);
+        self.checking = Some(Checking::start(rt, alloc, check, deadline)?);
         Ok(())
     }
 
     /// Discards the copy if it is obsolete. Whether it was.
-    fn discard<R: Log>(&mut self, rt: &R, now: u64) -> bool
+    pub(crate) fn discard<R: Log>(&mut self, rt: &R, now: u64) -> bool
         ensures obsolete { result ≡ is_obsolete self.old.copy.held self.old.copy.current now }
         ensures copy { self.new ≡ record self.old { copy = without_obsolete self.old.copy now } }
     {
@@ -267,34 +359,36 @@ impl Secondary {
         obsolete
     }
 
-    /// Begins a check that is due, unless one is going on. That it can't be begun is logged.
-    fn begin_due<R: Net + Log + Threads>(
+    /// Begins a check that is due, unless one is going on. That it can't be begun is logged. Whether one was begun.
+    pub(crate) fn begin_due<R: Net + Log + Threads>(
         &mut self,
         rt: &R,
         alloc: Global,
-        stop: &Arc<AtomicBool>,
-        now: u64,
-    ) {
-        if self.checking.is_some() || !self.copy.is_due(now) {
-            return;
-        }
-        if let Err(fault) = self.begin(rt, alloc, stop, now) {
-            error!(rt; "{}: {fault:#}", self.apex);
-        }
-    }
-
-    /// Takes what came of a check, discards an obsolete copy, and begins a check that is due. Whether another copy, or none, is
-    /// served from now on.
-    pub(crate) fn look<R: Net + Files + Log + Threads>(
-        &mut self,
-        rt: &R,
-        alloc: Global,
-        stop: &Arc<AtomicBool>,
         now: u64,
     ) -> bool {
+        let is_due = self.checking.is_none() && self.copy.is_due(now);
+        if is_due {
+            if let Err(fault) = self.begin(rt, alloc, now) {
+                error!(rt; "{}: {fault:#}", self.apex);
+            }
+        }
+        is_due && self.checking.is_some()
+    }
+
+    /// Takes what came of a NOTIFY and of a check, discards an obsolete copy, and gives a check up that takes too long. Whether
+    /// another copy, or none, is served from now on.
+    pub(crate) fn look<R: Files + Clock + Log + Threads>(
+        &mut self,
+        rt: &R,
+        alloc: Global,
+        now: u64,
+    ) -> bool {
+        self.wake_marked(rt);
         let came = self.take_ended(rt, alloc, now);
         let went = self.discard(rt, now);
-        self.begin_due(rt, alloc, stop, now);
+        if let Some(checking) = &self.checking {
+            checking.give_up_late(now);
+        }
         came || went
     }
 }

@@ -1,5 +1,11 @@
 //! Zones that are read of files.
 
+ghost use Rattle.std.specs.Prelude.{◌≡◌, true, OnOk, if◌then◌else◌, string_bytes};
+ghost use Rattle.std.specs.List.{list_any};
+ghost use Rattle.dns_generation.specs.Generations.{with_withheld};
+ghost use Rattle.dns_zone_copies.specs.Secondaries.{lacks_copy};
+ghost use Rattle.zoned.specs.Zones.{is_entry_named, without_data};
+
 use crate::configuration::load_config;
 use anyhow::{Context, bail};
 use dns_config::{Config, ZoneEntry};
@@ -31,24 +37,78 @@ fn load_zone(
     added.context(format_args!("{file}"))
 }
 
-/// Whether a zone stands among the first so many of a configuration.
-fn stands_before(config: &Config, count: usize, entry: &ZoneEntry) -> bool {
-    for other in config.zone.iter().take(count) {
-        if other.name.name.name_eq(&entry.name.name.for_ref()) {
-            return true;
+/// Whether a zone stands among some.
+fn stands_among(entries: &[ZoneEntry], entry: &ZoneEntry) -> bool
+    ensures { result ≡ list_any (is_entry_named entry.now.name.name) entries.now }
+{
+    entries
+        .iter()
+        .any(|other| other.name.name == entry.name.name)
+}
+
+/// Refuses a configuration in which a zone stands twice.
+pub(crate) fn refuse_twice(config: &Config) -> anyhow::Result<()> {
+    let entries = config.zone.as_slice();
+    for (place, entry) in entries.iter().enumerate() {
+        if stands_among(&entries[..place.min(entries.len())], entry) {
+            bail!("zone {} stands twice", entry.name.name);
         }
     }
-    false
+    Ok(())
+}
+
+/// The secondary at a place, if it is that of an entry, and else all.
+fn near<'a>(secondaries: &'a [Secondary], place: usize, entry: &ZoneEntry) -> &'a [Secondary] {
+    match secondaries.get(place) {
+        Some(secondary) if secondary.is_of(entry) => &secondaries[place..place + 1],
+        _ => secondaries,
+    }
 }
 
 /// Whether the secondary of a zone has no copy of it.
-fn is_without_copy(secondaries: &[Secondary], entry: &ZoneEntry) -> bool {
-    for secondary in secondaries {
-        if secondary.is_of(entry) {
-            return !secondary.has_copy();
+fn is_without_copy(secondaries: &[Secondary], entry: &ZoneEntry) -> bool
+    ensures { result ≡ list_any (lacks_copy entry.now.primary entry.now.name.name (string_bytes entry.now.file)) secondaries.now }
+{
+    secondaries
+        .iter()
+        .any(|secondary| secondary.lacks_copy_of(entry))
+}
+
+/// A zone in few words: without data where its secondary has no copy of it.
+fn summary_without(
+    secondaries: &[Secondary],
+    entry: &ZoneEntry,
+    summary: &ZoneSummary,
+) -> ZoneSummary
+    ensures { result ≡ (if list_any (lacks_copy entry.now.primary entry.now.name.name (string_bytes entry.now.file)) secondaries.now
+        then without_data else summary.now) }
+{
+    if is_without_copy(secondaries, entry) {
+        return ZoneSummary {
+            timers: None,
+            records: 0,
+        };
+    }
+    *summary
+}
+
+/// The zones of a configuration in few words, those without data whose secondary has no copy.
+pub(crate) fn summaries_without(
+    alloc: Global,
+    config: &Config,
+    summaries: &[ZoneSummary],
+    secondaries: &[Secondary],
+) -> Result<Vec<ZoneSummary>, AllocError> {
+    let mut others = Vec::new(alloc);
+    let mut place = 0usize;
+    for (entry, summary) in config.zone.iter().zip(summaries.iter()) {
+        let secondaries = near(secondaries, place, entry);
+        others.push(summary_without(secondaries, entry, summary))?;
+        if entry.primary.is_some() {
+            place = place.saturating_add(1);
         }
     }
-    false
+    Ok(others)
 }
 
 /// Puts a zone that has a primary behind the others: its copy, where there is one that is a zone, and else without data.
@@ -57,7 +117,10 @@ fn load_copy(
     generation: &mut Generation,
     secondaries: &[Secondary],
     entry: &ZoneEntry,
-) -> anyhow::Result<()> {
+) -> anyhow::Result<()>
+    ensures { OnOk result (list_any (lacks_copy entry.now.primary entry.now.name.name (string_bytes entry.now.file)) secondaries.now ≡ true
+        → generation.new ≡ with_withheld entry.now.name.name generation.old) }
+{
     if !is_without_copy(secondaries, entry) {
         match load_zone(rt, generation, entry) {
             Ok(()) => return Ok(()),
@@ -81,7 +144,7 @@ fn load_entry(
     }
 }
 
-/// All zones of a configuration, each read and judged.
+/// All zones of a configuration, each read and judged. The secondaries mostly stand in the order of its zones.
 pub(crate) fn load_generation(
     rt: &HostRuntime,
     config: &Config,
@@ -89,11 +152,12 @@ pub(crate) fn load_generation(
 ) -> anyhow::Result<Generation> {
     let allowed = networks(rt.alloc(), config.allow_transfer.as_slice())?;
     let mut generation = Generation::new(rt.alloc(), allowed);
-    for (index, entry) in config.zone.iter().enumerate() {
-        if stands_before(config, index, entry) {
-            bail!("zone {} stands twice", entry.name.name);
+    let mut place = 0usize;
+    for entry in config.zone.iter() {
+        load_entry(rt, &mut generation, near(secondaries, place, entry), entry)?;
+        if entry.primary.is_some() {
+            place = place.saturating_add(1);
         }
-        load_entry(rt, &mut generation, secondaries, entry)?;
     }
     Ok(generation)
 }
@@ -132,6 +196,7 @@ pub(crate) fn report(
 /// Says what a configuration would serve and where, or the first fault.
 pub(crate) fn check(rt: &HostRuntime, path: &str) -> anyhow::Result<()> {
     let config = load_config(rt, path)?;
+    refuse_twice(&config)?;
     let generation = load_generation(rt, &config, &[])?;
     for endpoint in config.listen.iter() {
         println!(rt; "listen {}", SocketAddrText(endpoint.address))?;

@@ -15,6 +15,8 @@
 //! # What is proved
 //!
 //! - Each function is safe, and returns but for those that wait.
+//! - A zone whose secondary has no copy is without data in what is read. So it is in what is served where zones can't be read
+//!   again.
 //! - The status of the program: 0 where all was done, 1 with a line that says the fault, 2 for faulty words.
 //!
 //! # What a body could still get away with

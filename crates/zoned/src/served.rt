@@ -1,32 +1,99 @@
 //! What is served at a time, with its number.
 
 use crate::configuration::load_config;
-use crate::load::load_generation;
+use crate::load::{load_generation, refuse_twice, summaries_without};
 use dns_authority::Authority;
 use dns_config::Config;
 use dns_generation::ZoneSummary;
+use dns_listener::ZoneService;
 use dns_middleware::Settings;
+use dns_name::OutOfMemory;
 use dns_secondary_service::Withholding;
 use dns_zone_copies::Secondary;
+use std::alloc::Global;
 use std::sync::Arc;
 
-/// The zones of a configuration that were read and judged: what answers over them, and what is said of each, in their order.
+/// The zones of a configuration that were read and judged, what answers over them, and what is said of each, in their order.
 #[derive(Drop)]
 pub(crate) struct Judged {
-    pub(crate) service: Arc<Withholding<Authority>>,
+    read: Arc<Withholding<Authority>>,
+    pub(crate) service: Arc<ZoneService>,
     pub(crate) summaries: Vec<ZoneSummary>,
 }
 
-/// Reads and judges the zones of a configuration. Zones whose secondary has no copy are without data.
-fn judge_zones(
-    rt: &HostRuntime,
+/// What answers over zones that were read: those that have data by their summaries, and the others without.
+fn service_over(
+    alloc: Global,
+    read: &Arc<Withholding<Authority>>,
     config: &Config,
-    secondaries: &[Secondary],
-) -> anyhow::Result<Judged> {
-    let generation = load_generation(rt, config, secondaries)?;
-    let summaries = Vec::from_slice(rt.alloc(), generation.summaries())?;
-    let service = Arc::new(rt.alloc(), generation.into_service())?;
-    Ok(Judged { service, summaries })
+    summaries: &[ZoneSummary],
+) -> Result<Arc<ZoneService>, OutOfMemory> {
+    let mut served = Vec::new(alloc);
+    let mut withheld = Vec::new(alloc);
+    for (entry, summary) in config.zone.iter().zip(summaries.iter()) {
+        let apex = entry.name.name.try_clone(alloc)?;
+        if summary.timers.is_some() {
+            served.push(apex)?;
+        } else {
+            withheld.push(apex)?;
+        }
+    }
+    let read = Arc::try_clone(read)?;
+    Ok(Arc::new(alloc, Withholding::new(read, served, withheld))?)
+}
+
+/// How many zones have data.
+fn served_count(summaries: &[ZoneSummary]) -> usize {
+    let mut count = 0usize;
+    for summary in summaries {
+        if summary.timers.is_some() {
+            count = count.saturating_add(1);
+        }
+    }
+    count
+}
+
+impl Judged {
+    /// Reads and judges the zones of a configuration. Zones whose secondary has no copy are without data.
+    fn load(
+        rt: &HostRuntime,
+        config: &Config,
+        secondaries: &[Secondary],
+    ) -> anyhow::Result<Judged> {
+        let generation = load_generation(rt, config, secondaries)?;
+        let summaries = Vec::from_slice(rt.alloc(), generation.summaries())?;
+        let read = Arc::new(rt.alloc(), generation.into_service())?;
+        let service = Withholding::new(
+            Arc::try_clone(&read)?,
+            Vec::new(rt.alloc()),
+            Vec::new(rt.alloc()),
+        );
+        Ok(Judged {
+            read,
+            service: Arc::new(rt.alloc(), service)?,
+            summaries,
+        })
+    }
+
+    /// These without the data of zones whose secondary has no copy; nothing where there are none.
+    fn without_lost(
+        &self,
+        alloc: Global,
+        config: &Config,
+        secondaries: &[Secondary],
+    ) -> Result<Option<Judged>, OutOfMemory> {
+        let summaries = self.summaries.as_slice();
+        let others = summaries_without(alloc, config, summaries, secondaries)?;
+        if served_count(others.as_slice()) == served_count(summaries) {
+            return Ok(None);
+        }
+        let service = service_over(alloc, &self.read, config, others.as_slice())?;
+        Ok(Some(Judged {
+            read: Arc::try_clone(&self.read)?,
+            service,
+            summaries: others,
+        }))
+    }
 }
 
 /// A configuration, its settings and its zones as they are served.
@@ -47,7 +114,7 @@ impl Served {
         secondaries: &[Secondary],
     ) -> anyhow::Result<Served> {
         let settings = config.settings(rt.alloc())?;
-        let zones = judge_zones(rt, &config, secondaries)?;
+        let zones = Judged::load(rt, &config, secondaries)?;
         Ok(Served {
             number,
             config,
@@ -64,6 +131,7 @@ impl Served {
         secondaries: &[Secondary],
     ) -> anyhow::Result<Served> {
         let config = Arc::new(rt.alloc(), load_config(rt, path)?)?;
+        refuse_twice(&config)?;
         Served::of(rt, number, config, secondaries)
     }
 
@@ -75,5 +143,24 @@ impl Served {
     ) -> anyhow::Result<Served> {
         let config = Arc::try_clone(&self.config)?;
         Served::of(rt, self.number.saturating_add(1), config, secondaries)
+    }
+
+    /// What follows where zones can't be read again: these without the data of zones whose secondary has no copy; nothing where
+    /// there are none.
+    pub(crate) fn without_lost(
+        &self,
+        alloc: Global,
+        secondaries: &[Secondary],
+    ) -> anyhow::Result<Option<Served>> {
+        let zones = match self.zones.without_lost(alloc, &self.config, secondaries)? {
+            Some(zones) => zones,
+            None => return Ok(None),
+        };
+        Ok(Some(Served {
+            number: self.number.saturating_add(1),
+            config: Arc::try_clone(&self.config)?,
+            settings: self.settings.try_clone(alloc)?,
+            zones,
+        }))
     }
 }

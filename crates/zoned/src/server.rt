@@ -8,13 +8,14 @@ use anyhow::Context;
 use dns_config::Config;
 use dns_control::{Caller, Control};
 use dns_listener::{
-    Counters, Listener, Offer, Running, bind_all, close_all, has_ended, say_listeners, take_back,
+    Counters, Listener, Offer, Running, Started, bind_all, close_all, has_ended, say_listeners,
+    take_back,
 };
 use dns_metrics::Endpoint;
 use dns_name::{OutOfMemory, SocketAddr};
 use dns_notifier::Notifier;
 use dns_socket_addr::{SocketAddrText, to_std};
-use dns_zone_copies::Copies;
+use dns_zone_copies::{Copies, CopiesTarget};
 use log::{Log, error, info};
 use std::alloc::{AllocError, Global};
 use std::net::Net;
@@ -33,6 +34,12 @@ const MILLIS: u64 = 1_000;
 /// How long nothing is served after a listener ended by itself.
 const PAUSE_MILLIS: u64 = 1_000;
 
+/// The number of the moment at which the server began, in seconds: 136 years.
+const BEGAN: u64 = 4_294_967_296;
+
+/// How long is waited before zones are read again that couldn't be read, in seconds.
+const AGAIN_SECONDS: u64 = 10;
+
 /// How far the generation that is served is.
 #[derive(Clone, Copy, PartialEq, Eq)]
 enum Phase {
@@ -50,6 +57,10 @@ struct Server {
     path: String,
     since: Instant,
     served: Served,
+    /// Whether a copy came or went since the zones were read.
+    is_stale: bool,
+    /// When they are to be read again then.
+    again: u64,
     copies: Copies,
     notifier: Notifier,
     counters: Arc<Counters>,
@@ -99,6 +110,8 @@ impl Server {
             path,
             since,
             served,
+            is_stale: false,
+            again: 0,
             copies,
             notifier: Notifier::new(alloc),
             counters,
@@ -158,13 +171,22 @@ impl Server {
         Ok(self.since.elapsed(rt)?.as_secs())
     }
 
-    /// Goes on to the copies of the zones that are served.
+    /// This moment, in seconds, so that moments before the server began have numbers too.
+    fn moment(&self, rt: &HostRuntime) -> anyhow::Result<u64> {
+        Ok(BEGAN.saturating_add(self.seconds(rt)?))
+    }
+
+    /// Goes on to the copies of the zones that are served. Those that are obsolete aren't served.
     fn follow_copies(&mut self, rt: &HostRuntime) -> anyhow::Result<()> {
-        let now = self.seconds(rt)?;
+        let now = self.moment(rt)?;
+        let alloc = rt.alloc();
         let served = &self.served;
         let summaries = served.zones.summaries.as_slice();
         self.copies
-            .follow(rt.alloc(), &served.config, summaries, now)?;
+            .follow(rt, alloc, &served.config, summaries, now)?;
+        if self.copies.discard_obsolete(rt, now) {
+            self.withhold_lost(rt)?;
+        }
         Ok(())
     }
 
@@ -172,11 +194,24 @@ impl Server {
     fn go_on(&mut self, rt: &HostRuntime, served: Served) -> anyhow::Result<()> {
         self.served = served;
         self.phase = Phase::Renewed;
-        self.follow_copies(rt)
+        self.is_stale = true;
+        self.follow_copies(rt)?;
+        self.is_stale = false;
+        Ok(())
+    }
+
+    /// Goes on without the data of zones that lost their copy, where there are any.
+    fn withhold_lost(&mut self, rt: &HostRuntime) -> anyhow::Result<()> {
+        let secondaries = self.copies.as_slice();
+        if let Some(served) = self.served.without_lost(rt.alloc(), secondaries)? {
+            self.served = served;
+            self.phase = Phase::Renewed;
+        }
+        Ok(())
     }
 
     /// What is served at a listener.
-    fn offer(&self, alloc: Global) -> Result<Offer, OutOfMemory> {
+    fn offer(&self, alloc: Global) -> Result<Offer<CopiesTarget>, OutOfMemory> {
         let served = &self.served;
         Offer::new(
             alloc,
@@ -188,19 +223,23 @@ impl Server {
         )
     }
 
-    /// Starts a thread for each listener, in which it serves.
+    /// Starts a thread for each listener, in which it serves. The listeners for which that can't be done are given back.
     fn start<R: Clock + Threads + Wait + Copy + Send + Sync + 'static>(
         &self,
         machine: R,
         alloc: Global,
         listeners: Vec<Listener<R>>,
-    ) -> anyhow::Result<Vec<Running<R>>> {
+    ) -> Result<(Vec<Running<R>>, Vec<Listener<R>>), OutOfMemory> {
         let mut running = Vec::new(alloc);
+        let mut refused = Vec::new(alloc);
         for listener in listeners {
             let offer = self.offer(alloc)?;
-            running.push(Running::start(machine, alloc, listener, offer)?)?;
+            match Running::start(machine, alloc, listener, offer) {
+                Started::Running(one) => running.push(one)?,
+                Started::Refused(listener) => refused.push(listener)?,
+            }
         }
-        Ok(running)
+        Ok((running, refused))
     }
 
     /// Appends a line for each zone, behind what stands before.
@@ -282,26 +321,47 @@ impl Server {
         }
     }
 
-    /// Looks at the copies and at those who were told of a serial. Where another copy came, or one went, the zones are read and
+    /// Reads and judges the zones again, if a copy came or went. Where that fails, the zones that lost their copy are without
+    /// data, and it is tried again later.
+    fn renew(&mut self, rt: &HostRuntime, now: u64) -> anyhow::Result<()> {
+        if !self.is_stale || now < self.again {
+            return Ok(());
+        }
+        self.again = now.saturating_add(AGAIN_SECONDS);
+        match self.served.renewed(rt, self.copies.as_slice()) {
+            Ok(served) => self.go_on(rt, served),
+            Err(fault) => {
+                error!(rt; "{fault:#}; the zones are read again in {AGAIN_SECONDS} s");
+                self.withhold_lost(rt)
+            }
+        }
+    }
+
+    /// Looks at the copies and at those who are told of a serial. Where another copy came, or one went, the zones are read and
     /// judged again.
-    fn look<R: Net + Files + Threads + Log>(
+    fn look<R: Net + Files + Clock + RandomSource + Threads + Log>(
         &mut self,
         machine: &R,
         rt: &HostRuntime,
     ) -> anyhow::Result<()> {
-        let now = self.seconds(rt)?;
+        let now = self.moment(rt)?;
         let alloc = rt.alloc();
-        self.notifier.look(rt, alloc, now.saturating_mul(MILLIS))?;
+        self.notifier
+            .look(machine, alloc, now.saturating_mul(MILLIS))?;
         if self.copies.look(machine, alloc, now)? {
-            let served = self.served.renewed(rt, self.copies.as_slice())?;
-            self.go_on(rt, served)?;
+            self.is_stale = true;
+            self.again = now;
         }
-        Ok(())
+        self.renew(rt, now)
     }
 
     /// Logs the transfers that were noted, and does what a caller asks, or what the copies lead to. What fails is logged, and what is
     /// served stays.
-    fn turn<R: Net + Files + Threads + Wait + Log>(&mut self, machine: &R, rt: &HostRuntime) {
+    fn turn<R: Net + Files + Clock + RandomSource + Threads + Wait + Log>(
+        &mut self,
+        machine: &R,
+        rt: &HostRuntime,
+    ) {
         self.counters.log_transfers(machine);
         self.obey_next(rt);
         if self.phase != Phase::Serving {
@@ -313,7 +373,7 @@ impl Server {
     }
 
     /// Waits until another generation is to be served, or none, or a listener ends by itself. Then each listener is shut down.
-    fn wait<R: Net + Files + Threads + Wait + Clock + Log>(
+    fn wait<R: Net + Files + RandomSource + Threads + Wait + Clock + Log>(
         &mut self,
         machine: &R,
         rt: &HostRuntime,
@@ -334,17 +394,24 @@ impl Server {
         close_all(machine, running);
     }
 
-    /// Tells of the serials that are served. That this fails is logged.
-    fn tell<R: Net + RandomSource + Log>(
+    /// Shuts each listener down where not all could be started, does what a caller asks, and waits.
+    fn pause<R: Net + Files + RandomSource + Threads + Wait + Clock + Log>(
         &mut self,
         machine: &R,
         rt: &HostRuntime,
-    ) -> anyhow::Result<()> {
-        let now = self.seconds(rt)?.saturating_mul(MILLIS);
+        running: &mut [Running<R>],
+    ) {
+        error!(rt; "a listener can't be started; all are started again");
+        close_all(machine, running);
+        self.turn(machine, rt);
+        thread::sleep(machine, Duration::from_millis(PAUSE_MILLIS));
+    }
+
+    /// Announces the serials that are served.
+    fn tell(&mut self, alloc: Global) -> Result<(), OutOfMemory> {
         let served = &self.served;
         let summaries = served.zones.summaries.as_slice();
-        self.notifier
-            .tell_changes(machine, rt.alloc(), &served.config, summaries, now)
+        self.notifier.tell_changes(alloc, &served.config, summaries)
     }
 
     /// Shows the generation that is served in the metrics.
@@ -368,12 +435,20 @@ impl Server {
         info!(rt; "generation {} is served", self.served.number);
         self.phase = Phase::Serving;
         self.show(&machine, rt.alloc())?;
-        if let Err(fault) = self.tell(&machine, rt) {
-            error!(rt; "NOTIFY: {fault:#}");
+        if self.tell(rt.alloc()).is_err() {
+            error!(rt; "NOTIFY: out of memory");
         }
-        let mut running = self.start(machine, rt.alloc(), listeners)?;
-        self.wait(&machine, rt, running.as_mut_slice());
-        Ok(take_back(&machine, rt.alloc(), running)?)
+        let (mut running, refused) = self.start(machine, rt.alloc(), listeners)?;
+        if refused.is_empty() {
+            self.wait(&machine, rt, running.as_mut_slice());
+        } else {
+            self.pause(&machine, rt, running.as_mut_slice());
+        }
+        let mut listeners = take_back(&machine, rt.alloc(), running)?;
+        for listener in refused {
+            listeners.push(listener)?;
+        }
+        Ok(listeners)
     }
 
     /// Opens all sockets, and serves generation after generation until the server is stopped.
