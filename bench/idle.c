@@ -19,7 +19,7 @@
 
 /* A query for the root's address, RD set, behind its length. */
 static const uint8_t QUERY[19] = {0, 17, 18, 52, 1, 0, 0, 1, 0, 0, 0, 0, 0, 0, 0, 0, 1, 0, 1};
-enum { MOST = 60000, BESIDE = 16, SMALL = 4096, PATIENCE = 5000, FULL = 500 };
+enum { MOST = 60000, BESIDE = 16, SMALL = 4096, MAX_WAIT_MS = 5000, FULL = 500 };
 
 static void stop(const char *what) {
     perror(what);
@@ -54,7 +54,7 @@ static int is_answered(int s) {
     if (write(s, QUERY, sizeof QUERY) != sizeof QUERY) return 0;
     while (have < 2 || have < 2 + ((size_t)buffer[0] << 8 | buffer[1])) {
         struct pollfd waits = {.fd = s, .events = POLLIN};
-        if (poll(&waits, 1, PATIENCE) <= 0) return 0;
+        if (poll(&waits, 1, MAX_WAIT_MS) <= 0) return 0;
         ssize_t n = read(s, buffer + have, sizeof buffer - have);
         if (n <= 0) return 0;
         have += (size_t)n;

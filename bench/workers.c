@@ -38,7 +38,7 @@
 /* A query for the root's address, RD set; the identifier is written over octets 0 and 1. */
 static const uint8_t QUERY[17] = {0, 0, 1, 0, 0, 1, 0, 0, 0, 0, 0, 0, 0, 0, 1, 0, 1};
 /* At most 64 segments go out by one call. */
-enum { LENGTH = 17, MOST_THREADS = 16, MOST_SOCKETS = 1024, MOST_WINDOW = 64, PATIENCE = 100000000 };
+enum { LENGTH = 17, MOST_THREADS = 16, MOST_SOCKETS = 1024, MOST_WINDOW = 64, MAX_SILENCE_NS = 100000000 };
 
 static void stop(const char *what) {
     perror(what);
@@ -154,7 +154,7 @@ static void turn(struct part *p, struct asker *a) {
         a->silent = 0;
     } else if (a->silent == 0) {
         a->silent = now();
-    } else if (now() - a->silent >= PATIENCE) {
+    } else if (now() - a->silent >= MAX_SILENCE_NS) {
         p->lost += a->left;
         send_window(p, a);
     }

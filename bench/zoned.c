@@ -31,7 +31,7 @@
 
 enum { MOST_SOCKETS = 64, MOST_WINDOW = 128, LONGEST = 64, ROOM = 2048, BATCH = 64, IDS = 65536 };
 
-static const uint64_t SECOND = 1000000000u, PATIENCE = 200000000u;
+static const uint64_t SECOND = 1000000000u, MAX_SILENCE_NS = 200000000u;
 
 static void stop(const char *what) {
     perror(what);
@@ -172,7 +172,7 @@ static unsigned hear_some(struct asker *a) {
     return count;
 }
 
-/* ---- The same over TCP ---- */
+/* ---- Over TCP ---- */
 
 static void write_some(struct asker *a, unsigned count) {
     static uint8_t text[MOST_WINDOW * (LONGEST + 2)];
@@ -235,7 +235,7 @@ static void ask(bool tcp, int port, unsigned sockets, unsigned window, uint64_t 
                 replies += count;
                 any += count;
                 (tcp ? write_some : send_some)(a, count);
-            } else if (!tcp && time > a->heard + PATIENCE) {
+            } else if (!tcp && time > a->heard + MAX_SILENCE_NS) {
                 lost += a->in_flight;
                 a->in_flight = 0;
                 a->heard = time;

@@ -15,7 +15,7 @@ HERE = os.path.dirname(os.path.realpath(__file__))
 # Each group: its title, its row from the top, its first column and how many it has, its color, and its crates.
 GROUPS = [
     ("Programs", 0, 1, 3, "#f6d6c4", "nutscythe zoned forwardd"),
-    ("A server that runs", 1, 1, 2, "#f6d6c4", "dns_server dns_listener dns_zone_copies dns_notifier dns_control dns_metrics"),
+    ("A server that runs", 1, 1, 2, "#f6d6c4", "dns_server dns_listener dns_zone_copies dns_notifier dns_control dns_metrics dns_proxy_status"),
     ("For callers from C", 1, 3, 1, "#f6d6c4", "dns_embed dns_reply_builder nutscythe_c"),
     ("Servers over sockets", 2, 0, 1, "#f6d6c4", "dns_transport dns_query_link dns_socket_addr"),
     ("Scripts, run, floods", 2, 2, 2, "#f6d6c4", "dns_trace dns_script dns_flood dns_run"),

@@ -42,7 +42,7 @@ def exports(text):
 
 
 def declared(text):
-    """The same of the header's raw calls."""
+    """Of each raw call of the header the types of its parameters and of its result."""
     found = {}
     for result, name, params in re.findall(r"^(\w+) (nutscythe_raw_\w+)\(([^{]*?)\);", text, re.S | re.M):
         widths = ["p" if "*" in param else C[re.sub(r"const |\s+\w+$", "", param).strip()] for param in split(params)]
@@ -79,7 +79,7 @@ def structs(source):
 
 
 def declared_structs(header):
-    """The same of the header."""
+    """Of each struct of the header the names and types of its fields."""
     found = {}
     for body, name in re.findall(r"typedef struct \w+ \{(.*?)\} (\w+);", header, re.S):
         fields = re.findall(r"(\w+) (\*?)(\w+)(?:\[(\d+)\])?;", body)

@@ -349,7 +349,7 @@ static inline uint32_t nutscythe_reply_option(nutscythe_reply *reply, uint16_t c
 }
 
 /* Writes the reply as it is sent, rewritten by the rule of its request. From then on nothing is added, and each call writes
- * the same.
+ * those octets.
  * gives: REPLY, and the first *octets_len octets are to be sent.
  * refuses: NO_ROOM, and *octets_len says how many octets are needed; NO_HANDLE, NULL_POINTER; NO_MEMORY, and the reply is
  * lost, so that each call says NO_MEMORY until it is begun anew. Buffer and length stay but for what is named. */

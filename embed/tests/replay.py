@@ -397,7 +397,7 @@ class Play:
 
 
 def judged(library, path, by_looks):
-    """What became of a script: the same, or left out and why, or what differs."""
+    """What became of a script: `the same`, or left out and why, or what differs."""
     name = path.removesuffix(".script")
     if os.path.exists(f"{name}.status") and open(f"{name}.status", encoding="ascii").read().strip() != "0":
         return "left out: refused"
@@ -414,7 +414,7 @@ def judged(library, path, by_looks):
 
 
 def main():
-    """All scripts of the folders."""
+    """All scripts of the folders. A folder none of whose scripts was played to its end fails too."""
     library, differ = Library(sys.argv[1]), False
     for folder in sys.argv[2:]:
         names, found = sorted(os.listdir(folder)), collections.Counter()
@@ -423,7 +423,7 @@ def main():
             if name.endswith(".script"):
                 found[judged(library, os.path.join(folder, name), word == "steps")] += 1
         print(f"scripts of {os.path.basename(folder)}:", ", ".join(f"{count} {what}" for what, count in sorted(found.items())))
-        differ |= "differs" in found or not found
+        differ |= "differs" in found or not found["the same"]
     sys.exit(differ)
 
 

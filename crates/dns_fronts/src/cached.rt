@@ -1,6 +1,6 @@
 //! A cache behind the layers, before upstreams.
 
-ghost use Rattle.std.specs.Prelude.{◌≡◌, IfOk, OnOk};
+ghost use Rattle.std.specs.Prelude.{◌≡◌, IfOk, OnOk, length};
 ghost use Rattle.dns_layers.specs.Rewritten.{rewritten};
 ghost use Rattle.dns_middleware.specs.Wrapped.{hint_left};
 ghost use Rattle.dns_fronts.specs.Layered.{given};
@@ -33,6 +33,13 @@ impl CachedFront {
         ensures { result ≡ record { front = front; cache = cache } }
     {
         CachedFront { front, cache }
+    }
+
+    /// How many replies the cache has.
+    pub fn entries(&self) -> usize
+        ensures { result ≡ length self.now.cache.entries }
+    {
+        self.cache.len()
     }
 
     /// The item out of the cache for a request that the layers pass on, where there is one.

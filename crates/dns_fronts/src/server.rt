@@ -1,6 +1,6 @@
 //! What a server says of itself, round another front.
 
-ghost use Rattle.std.specs.Prelude.{◌≡◌, IfOk, false};
+ghost use Rattle.std.specs.Prelude.{◌≡◌, IfOk, false, length};
 ghost use Rattle.dns_events.specs.Config.{Dgram};
 ghost use Rattle.dns_service.specs.Answer.{Item};
 ghost use Rattle.dns_service.specs.Asked.{asked_of, has_item};
@@ -71,6 +71,13 @@ impl ServerFront<CachedFront> {
             size,
             secret,
         }
+    }
+
+    /// How many replies the cache has.
+    pub fn entries(&self) -> usize
+        ensures { result ≡ length self.now.front.cache.entries }
+    {
+        self.front.entries()
     }
 }
 

@@ -104,6 +104,13 @@ impl<F: Front> Proxy<F> {
         }
     }
 
+    /// What stands before the upstreams.
+    pub fn front(&self) -> &F
+        ensures { result.now ≡ self.now.front }
+    {
+        &self.front
+    }
+
     /// An event of the query at a place. It is nothing to the others. Where it finds no memory, nothing is kept of the query.
     pub fn step(
         &mut self,

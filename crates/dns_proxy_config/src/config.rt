@@ -16,8 +16,8 @@ const REPLIES: usize = 10_000;
 /// Where a proxy listens, which servers it asks, and within which limits.
 #[derive(Drop)]
 pub struct Config {
-    /// What a name server's configuration says too: where is listened, limits of responses and connections, cookies. It has no
-    /// zones.
+    /// What a name server's configuration says too: where is listened, controlled and measured, limits of responses and
+    /// connections, cookies. It has no zones.
     pub server: ServerConfig,
     /// The networks whose clients need a good cookie over UDP.
     pub required: Vec<Prefix>,
@@ -40,6 +40,8 @@ pub struct UpstreamEntry {
 #[serde(deny_unknown_fields, rename_all = "kebab-case")]
 struct Keys {
     listen: Vec<Endpoint>,
+    control: Option<String>,
+    metrics: Option<Endpoint>,
     cache: Option<usize>,
     #[serde(default)]
     limits: Limits,
@@ -52,21 +54,25 @@ struct Keys {
 fn server_of(
     alloc: Global,
     listen: Vec<Endpoint>,
+    control: Option<String>,
+    metrics: Option<Endpoint>,
     limits: &Limits,
     cookies: Option<Cookies>,
 ) -> ServerConfig
     ensures listen { result.listen ≡ listen }
+    ensures control { result.control ≡ control }
+    ensures metrics { result.metrics ≡ metrics }
     ensures zones { result.zone.items ≡ [] }
     ensures limits { result.limits ≡ client_limits limits.now }
     ensures timeouts { result.timeouts ≡ client_timeouts limits.now }
     ensures cookies { result.cookies ≡ cookies }
     ensures transfers { result.allow_transfer.items ≡ [] }
-    ensures rest { (result.control ≡ None) × (result.workers ≡ None) × (result.nsid ≡ None) }
+    ensures rest { (result.workers ≡ None) × (result.nsid ≡ None) }
 {
     ServerConfig {
         listen,
-        control: None,
-        metrics: None,
+        control,
+        metrics,
         workers: None,
         nsid: None,
         allow_transfer: Vec::new(alloc),
@@ -94,6 +100,8 @@ impl Config {
 fn config_of(alloc: Global, keys: Keys) -> Result<Config, ConfigError>
     ensures listen { IfOk result (λ c. c.server.listen ≡ keys.listen) }
     ensures listens { IfOk result (λ c. c.server.listen.items ≢ []) }
+    ensures control { IfOk result (λ c. c.server.control ≡ keys.control) }
+    ensures metrics { IfOk result (λ c. c.server.metrics ≡ keys.metrics) }
     ensures zones { IfOk result (λ c. c.server.zone.items ≡ []) }
     ensures client_limits { IfOk result (λ c. c.server.limits ≡ client_limits keys.limits) }
     ensures client_timeouts { IfOk result (λ c. c.server.timeouts ≡ client_timeouts keys.limits) }
@@ -106,6 +114,8 @@ fn config_of(alloc: Global, keys: Keys) -> Result<Config, ConfigError>
 {
     let Keys {
         listen,
+        control,
+        metrics,
         cache,
         limits,
         cookies,
@@ -115,7 +125,7 @@ fn config_of(alloc: Global, keys: Keys) -> Result<Config, ConfigError>
         return Err(ConfigError::NoAddress);
     }
     let (cookies, required) = cookies_of(alloc, cookies);
-    let server = server_of(alloc, listen, &limits, cookies);
+    let server = server_of(alloc, listen, control, metrics, &limits, cookies);
     Ok(Config {
         server,
         required,

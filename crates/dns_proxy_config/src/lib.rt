@@ -1,9 +1,9 @@
 //! The configuration of a forwarding proxy, which is written in TOML.
 //!
 //! - `read_config` reads a text. What isn't known is refused, with its line.
-//! - `Config` has what a name server's configuration says too (`server`: where is listened, limits of responses and connections,
-//!   cookies). Beside that it has its `[[upstream]]` entries, the size of the cache, `Limits` and the networks that need a good
-//!   cookie (`required`). `server.settings` gives the settings of the layers.
+//! - `Config` has what a name server's configuration says too (`server`: where is listened, controlled and measured, limits of
+//!   responses and connections, cookies). Beside that it has its `[[upstream]]` entries, the size of the cache, `Limits` and the
+//!   networks that need a good cookie (`required`). `server.settings` gives the settings of the layers.
 //! - `Config::upstreams` gives the upstreams of dns_upstreams, and `Config::replies` how many replies the cache keeps.
 //! - `Limits` says how many connections there may be, how many requests of each, and for how long one may be idle. It says how many
 //!   queries may be asked at once and what is done with one more (`WhenFull`). It says how often and after what time a server is

@@ -10,6 +10,7 @@ use dns_message::{MessageRef, Question};
 use dns_name::{Octets, OutOfMemory};
 use dns_outside::Clock;
 use dns_proxy::{LookupEvent, QueryOutcome};
+use dns_proxy_status::ProxyEvent;
 use mio::Interest;
 use mio::net::UdpSocket;
 use std::alloc::Global;
@@ -26,6 +27,12 @@ pub(crate) fn question_of(alloc: Global, octets: &[u8]) -> Result<Option<Questio
         },
         Err(_) => Ok(None),
     }
+}
+
+/// Whether a query has ended without an answer: since nothing came in time, or the connection was lost.
+fn gives_up(event: &LookupEvent, outcome: &QueryOutcome) -> bool {
+    matches!(event, LookupEvent::Tick { .. } | LookupEvent::Lost)
+        && matches!(outcome, QueryOutcome::Reply(_))
 }
 
 impl<R: Net + rt::Clock + RandomSource + Copy> Forwarder<R> {
@@ -83,6 +90,7 @@ impl<R: Net + rt::Clock + RandomSource + Copy> Forwarder<R> {
         if let Some(Some(port)) = self.ports.get(number) {
             if port.places.first() == Some(&place) {
                 port.send();
+                self.counts.count(ProxyEvent::AskedAgain);
             }
         }
     }
@@ -141,6 +149,7 @@ impl<R: Net + rt::Clock + RandomSource + Copy> Forwarder<R> {
     ) -> Result<(), OutOfMemory> {
         if self.outstanding.ask(number, question)? {
             port.send();
+            self.counts.count(ProxyEvent::AskedOverUdp);
             self.keep_port(number, port);
             self.set_port(place, number);
         }
@@ -287,7 +296,12 @@ impl<R: Net + rt::Clock + RandomSource + Copy> Forwarder<R> {
     /// An event of the query at a place. Without memory the query ends, and its client is sent nothing.
     fn step(&mut self, place: usize, event: &LookupEvent) {
         match self.proxy.step(self.alloc, place, event) {
-            Ok(outcome) => self.follow(place, outcome),
+            Ok(outcome) => {
+                if gives_up(event, &outcome) {
+                    self.counts.count(ProxyEvent::GivenUp);
+                }
+                self.follow(place, outcome)
+            }
             Err(_) => self.end(place, None),
         }
     }
@@ -320,6 +334,7 @@ impl<R: Net + rt::Clock + RandomSource + Copy> Forwarder<R> {
         let token = self.clients.token_of(Source::Upstream(number));
         if let Some(Some(port)) = self.ports.get_mut(number) {
             let registry = self.poll.registry();
+            self.counts.count(ProxyEvent::AskedOverTcp);
             port.connect(&self.machine, self.alloc, registry, token, octets);
         }
     }

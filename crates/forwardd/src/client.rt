@@ -28,6 +28,13 @@ pub(crate) enum Client {
     },
 }
 
+impl Client {
+    /// Whether its message came over a connection.
+    pub(crate) fn is_stream(&self) -> bool {
+        matches!(self, Client::Connection { .. })
+    }
+}
+
 /// How busy a connection is: how many of its requests wait for their responses, and how many may. Then when the last of them came
 /// or was answered, and for how many ms it may be idle then.
 #[derive(Clone, Copy)]

@@ -111,22 +111,24 @@ impl Clients {
         }
     }
 
-    /// Takes a connection that came at a listener at a moment, if there is one. Where there may be no more, it is closed at once.
+    /// Takes a connection that came at a listener at a moment, if there is one: whether it is kept. Where there may be no more, it is
+    /// closed at once.
     pub(crate) fn accept(
         &mut self,
         registry: &Registry,
         listener: usize,
         at: u64,
-    ) -> io::Result<bool> {
+    ) -> io::Result<Option<bool>> {
         let Some((stream, addr)) = self.accepted(listener)? else {
-            return Ok(false);
+            return Ok(None);
         };
-        if let Some(number) = self.connections.free_number() {
-            let token = self.token_of(Source::Client(number));
-            self.connections
-                .keep(registry, token, number, stream, addr, at);
-        }
-        Ok(true)
+        let Some(number) = self.connections.free_number() else {
+            return Ok(Some(false));
+        };
+        let token = self.token_of(Source::Client(number));
+        self.connections
+            .keep(registry, token, number, stream, addr, at);
+        Ok(Some(true))
     }
 
     /// The connections at a listener are taken again later, since taking them failed at a moment.
@@ -179,6 +181,16 @@ impl Clients {
     /// Closes each connection that was idle for too long.
     pub(crate) fn close_idle(&mut self, at: u64) {
         self.connections.close_idle(at)
+    }
+
+    /// Takes no more requests over connections.
+    pub(crate) fn stop(&mut self) {
+        self.connections.stop()
+    }
+
+    /// Whether a message waits for room, a request for its response, or octets to be written.
+    pub(crate) fn is_busy(&self) -> bool {
+        !self.waiting.is_empty() || self.connections.is_busy()
     }
 
     // ---- what clients are sent

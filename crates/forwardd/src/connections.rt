@@ -9,6 +9,9 @@ use std::alloc::Global;
 use std::io;
 use std::net::SocketAddr;
 
+/// For how many ms a connection may be idle once the proxy is to end.
+const LAST_MILLIS: u64 = 2_000;
+
 /// How many connections there may be, how many requests of each may wait for their responses, and for how many ms one may be idle.
 #[derive(Clone, Copy)]
 pub(crate) struct ConnectionLimits {
@@ -194,6 +197,28 @@ impl Connections {
                 self.close(number);
             }
         }
+    }
+
+    /// Takes no more requests. A connection over which nothing waits is closed soon.
+    pub(crate) fn stop(&mut self) {
+        for number in 0..self.kept.len() {
+            if let Some(Some(kept)) = self.kept.get_mut(number) {
+                kept.load.most = 0;
+                kept.load.idle = kept.load.idle.min(LAST_MILLIS);
+            }
+        }
+    }
+
+    /// Whether a request waits over a connection, or octets wait to be written.
+    pub(crate) fn is_busy(&self) -> bool {
+        for kept in self.kept.iter() {
+            if let Some(kept) = kept {
+                if kept.load.waiting > 0 || kept.connection.unwritten() > 0 {
+                    return true;
+                }
+            }
+        }
+        false
     }
 
     /// Whether the connection of a number was idle for too long.

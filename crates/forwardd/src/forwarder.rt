@@ -19,23 +19,28 @@ use dns_outside::{Clock, HostClock};
 use dns_outstanding::Outstanding;
 use dns_proxy::{ClientMessage, ClientTransport, Proxy, Started};
 use dns_proxy_config::{Config, WhenFull};
+use dns_proxy_status::{ProxyCounts, ProxyEvent};
 use dns_service::StreamConfig;
 use dns_upstreams::{Seed, UpstreamConfig, Upstreams};
-use mio::{Events, Poll, Token};
+use mio::{Events, Poll, Token, Waker};
 use rand::rngs::StdRng;
 use rand::{RngExt, make_rng};
 use std::alloc::Global;
 use std::hash::RandomState;
 use std::net::Net;
 use std::random::RandomSource;
-use std::rt;
+use std::sync::Arc;
 use std::time::Duration;
+use std::{io, rt};
 
 /// How many datagrams of a socket are taken at a time.
 pub(crate) const BATCH: u32 = 64;
 
 /// The largest datagram.
 const DATAGRAM: usize = 65_535;
+
+/// The token of what wakes the forwarder. It stands for what is never there.
+const STOP: Token = Token(usize::MAX);
 
 /// A proxy, the sockets of its clients and its upstreams.
 #[derive(Drop)]
@@ -52,6 +57,8 @@ pub(crate) struct Forwarder<R> {
     pub(crate) clock: HostClock<R>,
     pub(crate) rng: StdRng,
     pub(crate) buffer: Vec<u8>,
+    pub(crate) counts: Arc<ProxyCounts>,
+    is_stopping: bool,
 }
 
 /// The proxy of a configuration.
@@ -104,14 +111,14 @@ struct Sockets {
 }
 
 impl Sockets {
-    /// Opens the sockets of a configuration, and says where is listened.
-    fn open<N: Net>(net: &N, rt: &HostRuntime, config: &Config) -> anyhow::Result<Sockets> {
+    /// Opens the sockets of a configuration.
+    fn open<N: Net>(net: &N, alloc: Global, config: &Config) -> anyhow::Result<Sockets> {
         let poll = Poll::new(net)?;
         let endpoints = config.server.listen.as_slice();
-        let listeners = bind_all(net, rt, poll.registry(), endpoints)?;
-        let settings = config.server.settings(rt.alloc())?;
+        let listeners = bind_all(net, alloc, poll.registry(), endpoints)?;
+        let settings = config.server.settings(alloc)?;
         let limits = connection_limits(&settings.stream);
-        let clients = Clients::new(rt.alloc(), listeners, limits, most_waiting(config));
+        let clients = Clients::new(alloc, listeners, limits, most_waiting(config));
         Ok(Sockets { poll, clients })
     }
 }
@@ -135,33 +142,30 @@ impl Core {
 }
 
 impl<R: Net + rt::Clock + RandomSource + Copy> Forwarder<R> {
-    /// Opens the sockets of a configuration, and says where is listened.
-    pub(crate) fn open(
-        machine: &R,
-        rt: &HostRuntime,
-        config: &Config,
-    ) -> anyhow::Result<Forwarder<R>> {
-        let alloc = rt.alloc();
-        let rng = make_rng(machine)?;
+    /// Opens the sockets of a configuration.
+    pub(crate) fn open(machine: R, alloc: Global, config: &Config) -> anyhow::Result<Forwarder<R>> {
+        let rng = make_rng(&machine)?;
         let buffer = vec![in alloc; 0u8; DATAGRAM]?;
-        let core = Core::new(machine, alloc, config)?;
-        let sockets = Sockets::open(machine, rt, config)?;
-        Ok(Forwarder::over(machine, alloc, sockets, core, rng, buffer))
+        let counts = Arc::new(alloc, ProxyCounts::new(alloc)?)?;
+        let core = Core::new(&machine, alloc, config)?;
+        let sockets = Sockets::open(&machine, alloc, config)?;
+        Ok(Forwarder::over(machine, alloc, sockets, core, rng, buffer, counts))
     }
 
     /// Over these sockets, without queries.
     fn over(
-        machine: &R,
+        machine: R,
         alloc: Global,
         sockets: Sockets,
         core: Core,
         rng: StdRng,
         buffer: Vec<u8>,
+        counts: Arc<ProxyCounts>,
     ) -> Forwarder<R> {
         let Sockets { poll, clients } = sockets;
         let Core { upstreams, proxy } = core;
         Forwarder {
-            machine: *machine,
+            machine,
             alloc,
             poll,
             clients,
@@ -170,11 +174,40 @@ impl<R: Net + rt::Clock + RandomSource + Copy> Forwarder<R> {
             places: Vec::new(alloc),
             ports: Vec::new(alloc),
             outstanding: Outstanding::new(alloc),
-            clock: HostClock::new(*machine),
+            clock: HostClock::new(machine),
             rng,
             buffer,
+            counts,
+            is_stopping: false,
         }
     }
+
+    // ---- the end
+
+    /// What wakes the forwarder where it is to end.
+    pub(crate) fn waker(&self) -> io::Result<Waker> {
+        Waker::new(self.poll.registry(), STOP)
+    }
+
+    /// Takes no more of clients. What waits is answered or given up.
+    pub(crate) fn stop(&mut self) {
+        if !self.is_stopping {
+            self.is_stopping = true;
+            self.clients.stop();
+        }
+    }
+
+    /// Whether anything waits.
+    pub(crate) fn is_busy(&self) -> bool {
+        self.clients.is_busy()
+            || self
+                .places
+                .iter()
+                .position(|place| place.is_some())
+                .is_some()
+    }
+
+    // ---- what comes
 
     /// Waits for what comes next, and takes it.
     pub(crate) fn turn(&mut self, events: &mut Events) -> anyhow::Result<()> {
@@ -187,10 +220,11 @@ impl<R: Net + rt::Clock + RandomSource + Copy> Forwarder<R> {
         self.tick_all();
         self.close_idle();
         self.accept_again();
+        self.counts.set_entries(self.proxy.front().entries());
         Ok(())
     }
 
-    /// Takes what came where a token stands for.
+    /// Takes what came where a token stands for. Once the proxy is to end, no more datagrams and connections of clients are taken.
     fn take(&mut self, token: Token) {
         match self.clients.source_of(token) {
             Source::Datagrams(listener) => self.take_datagrams(listener),
@@ -218,6 +252,9 @@ impl<R: Net + rt::Clock + RandomSource + Copy> Forwarder<R> {
 
     /// Takes the datagrams of clients that came at a listener. Without memory one is lost, as it may be on its way.
     fn take_datagrams(&mut self, listener: usize) {
+        if self.is_stopping {
+            return;
+        }
         for _ in 0..BATCH {
             let buffer = self.buffer.as_mut_slice();
             let Some((client, count)) = self.clients.receive(listener, buffer) else {
@@ -233,12 +270,16 @@ impl<R: Net + rt::Clock + RandomSource + Copy> Forwarder<R> {
 
     /// Takes the connections of clients that came at a listener. Where that failed and some may be left, they are taken again later.
     fn take_connections(&mut self, listener: usize) {
+        if self.is_stopping {
+            return;
+        }
         let (at, _) = self.clock.latest();
         let mut failed = false;
         for _ in 0..BATCH {
             match self.clients.accept(self.poll.registry(), listener, at) {
-                Ok(true) => {}
-                Ok(false) => return,
+                Ok(Some(true)) => self.counts.count(ProxyEvent::Connection),
+                Ok(Some(false)) => self.counts.count(ProxyEvent::TurnedAway),
+                Ok(None) => return,
                 Err(_) => failed = true,
             }
         }
@@ -282,6 +323,8 @@ impl<R: Net + rt::Clock + RandomSource + Copy> Forwarder<R> {
 
     /// Begins with a client's message, which waits behind the others where it is to. Without memory its client is sent nothing.
     fn begin(&mut self, client: Client, octets: Octets) {
+        self.counts
+            .count_message(client.is_stream(), octets.as_slice());
         match self.begun(client, octets) {
             Ok(None) => {}
             Ok(Some(octets)) => {
@@ -361,7 +404,12 @@ impl<R: Net + rt::Clock + RandomSource + Copy> Forwarder<R> {
             .proxy
             .begin(self.alloc, &came, server, drawn.id, when_full)?
         {
-            Started::Sent(octets) => self.reply(client, octets),
+            Started::Sent(octets) => {
+                if let Some(reply) = &octets {
+                    self.counts.count_at_once(reply.as_slice());
+                }
+                self.reply(client, octets)
+            }
             Started::Short => self.reply(client, None),
             Started::Full => return Ok(Some(came.octets)),
             Started::Asks { place, octets } => {
@@ -391,6 +439,9 @@ impl<R: Net + rt::Clock + RandomSource + Copy> Forwarder<R> {
     /// Sends a client what it is sent, if it is sent something.
     pub(crate) fn reply(&mut self, client: Client, octets: Option<Octets>) {
         let (at, _) = self.clock.latest();
+        if let Some(reply) = &octets {
+            self.counts.count_reply(reply.as_slice());
+        }
         self.clients.reply(self.poll.registry(), client, octets, at);
     }
 }

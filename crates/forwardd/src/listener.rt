@@ -6,6 +6,7 @@ use anyhow::Context;
 use dns_config::Endpoint;
 use mio::net::{TcpListener, UdpSocket};
 use mio::{Interest, Registry};
+use std::alloc::Global;
 use std::net::{Net, SocketAddr};
 
 /// The sockets of an address: for datagrams, and for connections; and when connections are taken again, where taking them failed.
@@ -39,19 +40,27 @@ fn bind<N: Net>(
     })
 }
 
-/// Opens the sockets of addresses, registers each under its number, and says where is listened.
+/// Opens the sockets of addresses, and registers each under its number.
 pub(crate) fn bind_all<N: Net>(
     net: &N,
-    rt: &HostRuntime,
+    alloc: Global,
     registry: &Registry,
     endpoints: &[Endpoint],
 ) -> anyhow::Result<Vec<Listener>> {
-    let mut listeners = Vec::new(rt.alloc());
+    let mut listeners = Vec::new(alloc);
     for endpoint in endpoints {
         let addr = to_std(endpoint.address);
         let listener = bind(net, registry, endpoints.len(), listeners.len(), addr)?;
         listeners.push(listener)?;
-        println!(rt; "listening on {addr}")?;
     }
     Ok(listeners)
+}
+
+/// Says where is listened.
+pub(crate) fn say_listening(rt: &HostRuntime, endpoints: &[Endpoint]) -> anyhow::Result<()> {
+    for endpoint in endpoints {
+        let addr = to_std(endpoint.address);
+        println!(rt; "listening on {addr}")?;
+    }
+    Ok(())
 }

@@ -1,6 +1,8 @@
-//! A forwarding proxy: asks upstreams for its clients, behind the layers and a cache; or judges a configuration.
+//! A forwarding proxy: asks upstreams for its clients, behind the layers and a cache; judges a configuration; or speaks to a proxy
+//! that runs.
 //!
-//! - `words` has the words of the command line, `load` reads a configuration, `check` judges one.
+//! - `words` has the words of the command line, `load` reads a configuration, `check` judges one. `serving` serves by one, beside
+//!   the control socket and the page of metrics of dns_proxy_status.
 //! - `clients` has where clients are listened to (`listener`), their connections (`connections`, `client`), and their
 //!   messages that wait for room.
 //! - `forwarder` has the clients, the core of dns_proxy and its front, and waits for what comes next (`token` says where).
@@ -19,7 +21,8 @@
 //! Nothing is sent for a response. A datagram for which there is no memory is lost, as it may be on its way. Over a
 //! connection requests are answered as their answers come (RFC 7766, section 6.2.1.1); it is read no more while as many of
 //! them wait for responses as may, and closed once it was idle for too long. Where the system has no descriptor
-//! for a connection, it is taken later.
+//! for a connection, it is taken later. Once the proxy is to end, nothing more is taken of clients, and what waits is
+//! answered or given up.
 //!
 //! # What is proved
 //!
@@ -49,68 +52,34 @@ mod listener;
 mod load;
 mod place;
 mod port;
+mod serving;
 mod token;
 mod words;
 
 use crate::check::check;
-use crate::forwarder::Forwarder;
-use crate::load::load_config;
-use crate::words::{Order, order_of};
-use mio::Events;
-use std::alloc::Global;
+use crate::serving::{ctl, serve};
+use crate::words::{Order, order_of, path_of};
+use std::env;
 use std::net::Net;
 use std::process::ExitCode;
 use std::random::RandomSource;
+use std::rt::{Clock, Files};
 use std::sync::Wait;
-use std::{env, rt};
-
-/// How many events are taken at a time.
-const EVENTS: usize = 256;
-
-/// Opens the sockets of the configuration of a file.
-fn opened<R: Net + rt::Clock + RandomSource + Copy>(
-    machine: &R,
-    rt: &HostRuntime,
-    path: &str,
-) -> anyhow::Result<Forwarder<R>> {
-    let config = load_config(rt, path)?;
-    Forwarder::open(machine, rt, &config)
-}
-
-/// Takes what comes, until a fault of the machine.
-fn run<R: Net + rt::Clock + RandomSource + Wait + Copy>(
-    machine: &R,
-    alloc: Global,
-    forwarder: &mut Forwarder<R>,
-) -> anyhow::Result<()> {
-    let mut events = Events::with_capacity(alloc, EVENTS)?;
-    for _ in machine.forever() {
-        forwarder.turn(&mut events)?;
-    }
-    Ok(())
-}
-
-/// Serves by the configuration of a file.
-fn serve<R: Net + rt::Clock + RandomSource + Wait + Copy>(
-    machine: &R,
-    rt: &HostRuntime,
-    path: &str,
-) -> anyhow::Result<()> {
-    let mut forwarder = opened(machine, rt, path)?;
-    run(machine, rt.alloc(), &mut forwarder)
-}
+use std::thread::Threads;
 
 /// Says how the program is called.
 fn misused(rt: &impl Eprint) -> ExitCode
     ensures { exit_status result ≡ 2 }
 {
-    let _ = eprintln!(rt; "usage: forwardd CONFIG, forwardd check CONFIG");
+    let _ = eprintln!(rt;
+        "usage: forwardd CONFIG, forwardd check CONFIG, forwardd ctl CONFIG status|stop"
+    );
     ExitCode::from(2)
 }
 
 /// Does what the words ask for.
-fn performed<R: Net + rt::Clock + RandomSource + Wait + Copy>(
-    machine: &R,
+fn performed<R: Net + Files + Clock + RandomSource + Threads + Wait + Copy + Send + Sync + 'static>(
+    machine: R,
     rt: &HostRuntime,
     order: Order,
     path: &str,
@@ -120,19 +89,21 @@ fn performed<R: Net + rt::Clock + RandomSource + Wait + Copy>(
     match order {
         Order::Serve => serve(machine, rt, path)?,
         Order::Check => check(rt, path)?,
+        Order::Status => ctl(&machine, rt, path, "status")?,
+        Order::Stop => ctl(&machine, rt, path, "stop")?,
     }
     Ok(ExitCode::SUCCESS)
 }
 
 /// Reads the words and does what they ask for.
-fn answered<R: Net + rt::Clock + RandomSource + Wait + Copy>(
-    machine: &R,
+fn answered<R: Net + Files + Clock + RandomSource + Threads + Wait + Copy + Send + Sync + 'static>(
+    machine: R,
     rt: &HostRuntime,
 ) -> anyhow::Result<ExitCode> {
     let words: Vec<String> = env::args(rt)?.collect(rt.alloc())?;
-    match (order_of(words.as_slice()), words.last()) {
-        (Some(order), Some(path)) => performed(machine, rt, order, path.as_str()),
-        _ => Ok(misused(rt)),
+    match order_of(words.as_slice()) {
+        Some(order) => performed(machine, rt, order, path_of(words.as_slice())),
+        None => Ok(misused(rt)),
     }
 }
 
@@ -145,7 +116,7 @@ fn failed(rt: &impl Eprint, fault: &anyhow::Error) -> ExitCode
 }
 
 fn main(rt: HostRuntime) -> ExitCode {
-    match answered(&rt, &rt) {
+    match answered(rt, &rt) {
         Ok(status) => status,
         Err(fault) => failed(&rt, &fault),
     }
