@@ -21,7 +21,7 @@ GROUPS = [
     ("Scripts, run, floods", 2, 2, 2, "#f6d6c4", "dns_trace dns_script dns_flood dns_run"),
     ("Signed zones", 2, 1, 1, "#f8e7b9", "dns_denial dns_nsec_data dns_signed_zone dns_signed_reply"),
     ("Loops over links and sockets", 3, 0, 1, "#f6d6c4", "dns_recorder dns_stream_driver dns_dgram_driver dns_accepts dns_host dns_account dns_workers"),
-    ("Several zones, transfers", 3, 3, 1, "#f8e7b9", "dns_transfer dns_incoming dns_authority dns_zone_tree dns_name_server dns_secondary dns_secondary_service dns_generation dns_sent_transfer"),
+    ("Several zones, transfers", 3, 3, 1, "#f8e7b9", "dns_transfer dns_incoming dns_authority dns_zone_tree dns_name_server dns_secondary dns_secondary_service dns_generation dns_sent_transfer dns_key_access"),
     ("A forwarding proxy", 3, 2, 1, "#f8e7b9", "dns_decide dns_lookup dns_proxy dns_fronts dns_upstreams dns_outstanding dns_proxy_config"),
     ("Links, sockets, clocks", 4, 0, 1, "#f6d6c4", "dns_io dns_memory dns_outside dns_witness dns_query_sock"),
     ("What each client is sent", 4, 1, 1, "#f8e7b9", "dns_framing dns_session dns_session_map dns_model dns_core"),
@@ -31,7 +31,7 @@ GROUPS = [
     ("Requests, services, events", 6, 1, 2, "#d7e8c8", "dns_replies dns_events dns_service dns_stream"),
     ("EDNS options", 7, 1, 2, "#c9e2e6", "dns_lists dns_algs dns_kinds dns_cookie dns_option_list dns_options dns_opt dns_rate_limit"),
     ("Zone files", 7, 3, 1, "#c9e2e6", "dns_entries dns_word_values dns_presentation dns_zone_file dns_record_text dns_message_text dns_zone_include"),
-    ("Messages", 8, 1, 3, "#d5d3ea", "dns_message dns_base dns_hmac dns_tsig"),
+    ("Messages", 8, 1, 3, "#d5d3ea", "dns_message dns_base dns_hmac dns_tsig dns_peer_keys"),
     ("Names and numbers", 9, 0, 4, "#d5d3ea", "dns_name dns_order"),
 ]
 COLUMN, GAP, DOWN, EDGE = 280, 16, 30, 12
