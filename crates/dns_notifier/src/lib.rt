@@ -24,7 +24,8 @@
 //!
 //! # What a body could still get away with
 //!
-//! No clause says what a socket gives or takes. That each address of a new serial is told is a test's matter (`tools/zoned`).
+//! No clause says what a socket gives or takes. That each address of a new serial is told is a test's matter (`tools/zoned`). So
+//! is that it is told under its key (`tools/interop/keys`).
 #![tactic(auto)]
 
 mod known;

@@ -30,6 +30,8 @@
 //! - What comes of a check is offered to the copy: a zone that came replaces it only if its serial is newer and its file is
 //!   written; else what is held stays (`take`).
 //! - The copy that is held is the one that is served (`follow`). It stays with what is known of it.
+//! - A reply to a query that was signed is taken only if it verifies. A transfer that was asked under a key ends only behind a
+//!   message that was signed. A secondary has the key that its entry names (`follow`).
 //! - The target of NOTIFY has the zones and the primaries of all secondaries.
 //! - Which check is due when, and when a copy is discarded, is proved of `ZoneCopy` of dns_secondary. What comes of the
 //!   messages of a transfer is proved of dns_incoming.
@@ -37,7 +39,7 @@
 //! # What a body could still get away with
 //!
 //! No clause says what sockets, files and threads give. That a check is begun where one is due is a test's matter
-//! (`tools/zoned`, `tools/interop/zoned`).
+//! (`tools/zoned`, `tools/interop/zoned`). So is that both queries are signed where there is a key (`tools/interop/keys`).
 #![tactic(auto)]
 
 mod check;
