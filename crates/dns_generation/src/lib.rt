@@ -5,7 +5,7 @@
 //!   transfer. `into_service` gives what answers.
 //! - `ZoneTextError` says why a text isn't served: a line and its reason, or why its records are no zone.
 //! - `ZoneSummary` is what is said of a zone: its SOA record and how many records it has.
-//! - `networks` are those of a configuration to which zones are transferred.
+//! - `networks` are those of a configuration to which zones are transferred, under a key or not.
 //!
 //! ```text
 //! Generation::new -> add, withhold, .. -> into_service: a service for the layers
