@@ -109,7 +109,7 @@ where
     serve_noted(rt, alloc, place, tally, ClassicUdpSize::new(service))
 }
 
-/// Serves with requests that are verified and replies that are signed, where they have a TSIG (RFC 8945).
+/// Serves with requests that are verified and replies that are signed, if they have a TSIG (RFC 8945).
 fn serve_signed<
     R: Clock + Threads + Wait + Copy + Send + Sync + 'static,
     S: Service<Option<usize>> + Send + Sync + 'static,

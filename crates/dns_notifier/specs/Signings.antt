@@ -15,14 +15,14 @@ pub record SigningParts : Type 0 where
 abbrev pub under : KeyParts → SigningParts
 under key = record { key = key; mac = None; fault = None }
 
--- what was sent is signed behind no MAC, and its MAC is known
+-- what was sent is signed after no MAC, and its MAC is known
 pub record IsSigned (key : KeyParts) (secs : ℕ) (message sent : List ℕ) (s : SigningParts) : Type 0 where
   pub kept : s.key ≡ key
   pub code : List ℕ
   pub known : s.mac ≡ Some code
   pub signed : Signs key [] (request_stamp secs) [] message sent code
 
--- an answer verifies behind the MAC that was sent
+-- an answer verifies after the MAC that was sent
 pub record IsVerified (s : SigningParts) (secs : ℕ) (given answer : List ℕ) : Type 0 where
   pub code : List ℕ
   pub sent : s.mac ≡ Some code

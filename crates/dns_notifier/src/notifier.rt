@@ -24,7 +24,7 @@ use std::sync::Arc;
 /// How many NOTIFYs are on their way at once.
 const MOST_PENDING: usize = 20;
 
-/// A zone, and an address to which the NOTIFY of its new serial is to be sent, under a key if one is shared with it.
+/// A zone, an address to which the NOTIFY of its new serial is to be sent, and the key that is shared with it, if any.
 #[derive(Drop)]
 struct Announcement {
     apex: Name,

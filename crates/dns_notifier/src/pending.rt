@@ -139,7 +139,7 @@ impl PendingNotify {
         }
     }
 
-    /// The octets that are sent, signed where there is a key.
+    /// The octets that are sent, signed if there is a key.
     fn octets(&mut self, alloc: Global, secs: u64) -> Result<Option<Vec<u8>>, OutOfMemory> {
         match &mut self.signing {
             Some(signing) => signing.sign(alloc, secs, self.asking.octets()),
@@ -157,7 +157,7 @@ impl PendingNotify {
         Ok(())
     }
 
-    /// The octets of an answer as it is taken: where there is a key, those of one that verifies, without its TSIG.
+    /// The octets of an answer as it is taken: if there is a key, those of one that verifies, without its TSIG.
     fn taken(
         &mut self,
         alloc: Global,

@@ -42,7 +42,7 @@ impl Signing {
         }
     }
 
-    /// A message as it is sent at a time in seconds since 1970: it is signed anew each time. None where no TSIG has room.
+    /// A message as it is sent at a time in seconds since 1970: it is signed anew each time. None if no TSIG has room.
     pub(crate) fn sign(
         &mut self,
         alloc: Global,

@@ -14,7 +14,7 @@
 //!
 //! It stands round `wrap` of dns_middleware, or round a layer that stands round it. A datagram is never transferred, so no
 //! note is made of its question for a transfer. The sender of a datagram hasn't shown its address. So the note of a NOTIFY or
-//! of a query for the SOA record is made only where no other waits.
+//! of a query for the SOA record is made only if no other waits.
 //!
 //! # What is proved
 //!

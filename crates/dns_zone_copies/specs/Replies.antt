@@ -22,7 +22,7 @@ GoesOnTo (Some r) None m = ⊥
 GoesOnTo (Some r) (Some after) m = (secs : ℕ) × ((after.key ≡ r.key) × ((c : Chain) → Follows r.key c r.stream
     → GoesOn r.key (taken r.key (size_of r.key.algorithm) (tsig_time secs) c m) after.stream))
 
--- a transfer may end; one that was asked under a key, only behind a message that was signed
+-- a transfer may end; one that was asked under a key, only after a message that was signed
 abbrev pub MayEnd : Option TransferParts → Bool → Type 0
 MayEnd None ends = ends ≡ true
 MayEnd (Some r) ends = (c : Chain) → Follows r.key c r.stream → ends ≡ is_whole c

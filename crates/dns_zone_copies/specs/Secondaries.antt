@@ -15,7 +15,7 @@ use Rattle.dns_socket_addr.specs.SocketAddresses.{same_socket_addr}
 use Rattle.dns_zone_copies.specs.declared.check.Checked.{Checked}
 use Rattle.dns_zone_copies.specs.declared.check.Checked.TheVariants.{Current, Came}
 
--- the apex of the zone, its primary, the key that is shared with it, where one is, the file of the copy, and the copy
+-- the apex of the zone, its primary, the key that is shared with it, if one is, the file of the copy, and the copy
 pub record SecondaryState : Type 0 where
   pub apex : List (List ℕ)
   pub primary : SocketAddr
@@ -31,7 +31,7 @@ abbrev pub begun : List (List ℕ) → SocketAddr → Option KeyParts → List �
 begun apex primary key file held current =
     record { apex = apex; primary = primary; key = key; file = file; copy = new_copy primary.ip held current }
 
--- the key that an entry names for its primary, or that none is; nothing where no key has the name
+-- the key that an entry names for its primary, or that none is; nothing if no key has the name
 abbrev pub key_shared : List KeyParts → Option KeyName → Option (Option KeyParts)
 key_shared keys None = Some None
 key_shared keys (Some n) = option_map (λ found. Some found.1) (key_named n.name keys)

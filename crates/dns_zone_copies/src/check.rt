@@ -86,7 +86,7 @@ struct SignedQuery {
     mac: Mac,
 }
 
-/// Sends a query, signed where there is a key.
+/// Sends a query, signed if there is a key.
 fn ask<R: Clock, S: Write>(
     rt: &R,
     alloc: Global,

@@ -12,7 +12,7 @@
 //! NOTIFY -> target -> look: a check is due
 //! ```
 //!
-//! Where a key is shared with the primary (RFC 8945), both queries are signed under it, and replies that don't verify are
+//! If a key is shared with the primary (RFC 8945), both queries are signed under it, and replies that don't verify are
 //! refused. What is verified of a transfer is a front of it: that it is whole is seen by its second SOA record.
 //!
 //! A check is a connection to the primary in a thread of its own. It asks for the SOA record first, and for the zone if that
@@ -30,7 +30,7 @@
 //! - What comes of a check is offered to the copy: a zone that came replaces it only if its serial is newer and its file is
 //!   written; else what is held stays (`take`).
 //! - The copy that is held is the one that is served (`follow`). It stays with what is known of it.
-//! - A reply to a query that was signed is taken only if it verifies. A transfer that was asked under a key ends only behind a
+//! - A reply to a query that was signed is taken only if it verifies. A transfer that was asked under a key ends only after a
 //!   message that was signed. A secondary has the key that its entry names (`follow`).
 //! - The target of NOTIFY has the zones and the primaries of all secondaries.
 //! - Which check is due when, and when a copy is discarded, is proved of `ZoneCopy` of dns_secondary. What comes of the

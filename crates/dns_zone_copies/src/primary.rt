@@ -38,7 +38,7 @@ pub(crate) fn send<S: Write>(stream: &mut S, message: AdditionalBuilder) -> anyh
     Ok(())
 }
 
-/// Sends octets behind their number, in one write (RFC 7766, section 8).
+/// Sends octets after their number, in one write (RFC 7766, section 8).
 fn send_octets<S: Write>(alloc: Global, stream: &mut S, octets: &[u8]) -> anyhow::Result<()> {
     let Ok(count) = u16::try_from(octets.len()) else {
         bail!("a message is too long");

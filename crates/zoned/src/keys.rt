@@ -43,7 +43,7 @@ fn secret_text(rt: &HostRuntime, entry: &KeyEntry) -> anyhow::Result<String> {
     }
 }
 
-/// Puts a key behind the others.
+/// Puts a key after the others.
 fn add_key(rt: &HostRuntime, keys: &mut PeerKeys, entry: &KeyEntry) -> anyhow::Result<()> {
     let text = secret_text(rt, entry)?;
     let name = entry.name.name.try_clone(rt.alloc())?;
@@ -87,7 +87,7 @@ fn access_of(
     }
 }
 
-/// Adds who may transfer a zone, where one of its networks wants a key.
+/// Adds who may transfer a zone, if one of its networks wants a key.
 fn add_transfers(
     alloc: Global,
     keys: &PeerKeys,
