@@ -17,7 +17,7 @@ use dns_zone_copies::Secondary;
 use log::warn;
 use std::alloc::{AllocError, Global};
 use std::fmt::Write;
-use std::fs;
+use std::{fs, slice};
 
 /// Reads and judges the zone of one file, and puts it after the others.
 fn load_zone(
@@ -61,7 +61,7 @@ pub(crate) fn refuse_twice(config: &Config) -> anyhow::Result<()> {
 /// The secondary at a place, if it is that of an entry, and else all.
 fn near<'a>(secondaries: &'a [Secondary], place: usize, entry: &ZoneEntry) -> &'a [Secondary] {
     match secondaries.get(place) {
-        Some(secondary) if secondary.is_of(entry) => &secondaries[place..place + 1],
+        Some(secondary) if secondary.is_of(entry) => slice::from_ref(secondary),
         _ => secondaries,
     }
 }
