@@ -24,7 +24,7 @@ known_serials (entry ∷ entries) (summary ∷ summaries) = serials_of entry.nam
 abbrev pub is_of : List (List ℕ) → Known → Bool
 is_of apex known = same_name known.apex apex
 
--- the key that is named for one who is told, or that none is; nothing if no key has the name
+-- the key that is named for an address, or that none is; nothing if no key has the name
 abbrev pub key_shared : List KeyParts → Option KeyName → Option (Option KeyParts)
 key_shared keys None = Some None
 key_shared keys (Some n) = option_map (λ found. Some found.1) (key_named n.name keys)

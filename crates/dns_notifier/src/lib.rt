@@ -8,7 +8,7 @@
 //! a new generation -> tell_changes -> wait -> look: NOTIFY -> look: answered | sent again | given up
 //! ```
 //!
-//! Who shares a key is told under it (RFC 8945): each NOTIFY is signed as it is sent, and an answer that doesn't verify is left.
+//! To an address with which a key is shared (RFC 8945), each NOTIFY is signed as it is sent. An answer that doesn't verify is left.
 //!
 //! A NOTIFY is sent five times at most, 15 s after each other: sooner and no more often than RFC 1996, section 3.6, has as defaults.
 //! Each has a socket and an identifier of its own. One without a socket counts as lost, and is sent again. At most 20 are on their

@@ -124,7 +124,7 @@ impl Notifier {
     }
 
     /// Announces each zone of a configuration that is served with another serial than before. The summaries are those of its
-    /// zones, in their order. Who shares a key is told under it.
+    /// zones, in their order. Each is signed under the key that its address shares, if any.
     pub fn tell_changes(
         &mut self,
         alloc: Global,

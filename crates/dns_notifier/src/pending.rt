@@ -32,7 +32,7 @@ pub(crate) struct PendingNotify {
     /// None if none could be opened yet.
     socket: Option<UdpSocket>,
     asking: Asking,
-    /// Where a key is shared with whom is told.
+    /// If a key is shared with the address.
     signing: Option<Signing>,
 }
 

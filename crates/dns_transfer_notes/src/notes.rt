@@ -74,7 +74,7 @@ impl TransferNotes {
         };
     }
 
-    /// Puts a note after the others, and counts it. One that a datagram may lead to is put where no other waits, since whoever sends
+    /// Puts a note after the others, and counts it. One that a datagram may lead to is put if no other waits, since whoever sends
     /// a datagram need not have shown its address.
     pub(crate) fn put<R: Wait>(&self, rt: &R, note: TransferNote) {
         self.count(note.news);

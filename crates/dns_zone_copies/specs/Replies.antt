@@ -15,7 +15,7 @@ abbrev pub IsReplyTo : Option SignedQuery → List ℕ → List ℕ → Type 0
 IsReplyTo None given reply = reply ≡ given
 IsReplyTo (Some q) given reply = (secs : ℕ) × (reply_of (arc_value q.key) (octets_of q.mac) secs (found given) ≡ Ok reply)
 
--- a message goes on, at some time, what was taken of a transfer before; where that wasn't asked under a key, each does
+-- a message goes on, at some time, what was taken of a transfer before; if that wasn't asked under a key, each does
 abbrev pub GoesOnTo : Option TransferParts → Option TransferParts → List ℕ → Type 0
 GoesOnTo None after m = after ≡ None
 GoesOnTo (Some r) None m = ⊥

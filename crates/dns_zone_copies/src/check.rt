@@ -107,7 +107,7 @@ fn ask<R: Clock, S: Write>(
     }
 }
 
-/// A reply to a query: where that was signed, one that verifies, without its TSIG.
+/// A reply to a query: if that was signed, one that verifies, without its TSIG.
 fn verified<R: Clock>(
     rt: &R,
     alloc: Global,
@@ -156,7 +156,7 @@ fn first_timers(records: &[Record]) -> Option<SoaTimers> {
     }
 }
 
-/// Asks for the zone that the primary has, and gives what verifies its replies where the query was signed.
+/// Asks for the zone that the primary has, and gives what verifies its replies if the query was signed.
 fn ask_transfer<R: Clock, S: Write>(
     rt: &R,
     alloc: Global,
@@ -206,7 +206,7 @@ fn go_on<R: Clock>(
     }
 }
 
-/// Whether a transfer may end: where it was asked under a key, its last message was signed.
+/// Whether a transfer may end: if it was asked under a key, its last message was signed.
 fn may_end(replies: &Option<TransferReplies>) -> bool
     ensures { MayEnd replies.now result }
 {

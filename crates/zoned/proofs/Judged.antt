@@ -1,13 +1,25 @@
 -- Zones that are judged by keys, one by one.
-use Rattle.std.proofs.Common.{◌≡◌, ℕ, ◌+◌, ◌<◌, List, length, take, get_or, Option, Some, None, tt, subst}
-use Rattle.std.proofs.lemmas.List.Elements.{All-more}
+use Rattle.std.proofs.Common.{◌≡◌, ℕ, ◌+◌, ◌<◌, List, [], ◌∷◌, ◌++◌, length, take, get_or, Option, Some, None, tt, sym, subst}
+use Rattle.std.specs.Prelude.{Contains}
+use Rattle.std.proofs.lemmas.List.Elements.{All-more, Contains-append_left, Contains-push}
 use Rattle.dns_config.specs.declared.config.ZoneEntry.{ZoneEntry}
 use Rattle.dns_config.specs.declared.peer.AllowedNetwork.{AllowedNetwork}
 use Rattle.dns_config.specs.declared.peer.Peer.{Peer}
 use Rattle.dns_tsig.specs.Keys.{KeyParts}
 use Rattle.dns_key_access.specs.declared.access.Access.{Access}
 use Rattle.dns_key_access.specs.declared.access.ZoneAccess.{ZoneAccess}
-use Rattle.zoned.specs.Keys.{AreJudged, Grows, Judges, NotifyIsJudged, TransferIsJudged, notify_judged_by}
+use Rattle.zoned.specs.Keys.{AddsZone, AreJudged, Grows, Judges, NotifyIsJudged, TransferIsJudged, notify_judged_by}
+
+pub added_grows : (apex : List (List ℕ)) (allowed : List Access) (before after : List ZoneAccess) → AddsZone apex allowed before after → Grows before after
+added_grows apex allowed before after a = λ z h. subst (λ zs. Contains zs z) (sym a.added) (Contains-append_left before (a.zone ∷ []) z h)
+
+pub added_judges : (P : List Access → Type 0) (apex : List (List ℕ)) (allowed : List Access) (before after : List ZoneAccess) → AddsZone apex allowed before after → P allowed → Judges P apex after
+added_judges P apex allowed before after a p = record {
+  zone = a.zone;
+  among = subst (λ zs. Contains zs a.zone) (sym a.added) (Contains-push before a.zone);
+  named = a.named;
+  by_all = subst P (sym a.permitted) p;
+}
 
 grown : (P : List Access → Type 0) (apex : List (List ℕ)) (before after : List ZoneAccess) → Grows before after → Judges P apex before → Judges P apex after
 grown P apex before after g j = record { zone = j.zone; among = g j.zone j.among; named = j.named; by_all = j.by_all }

@@ -1,12 +1,21 @@
--- Which zones of a configuration are judged by keys (RFC 8945, section 5.2).
-use Rattle.std.specs.Prelude.{ℕ, ◌≡◌, true, All, List, [], ◌∷◌, Contains, map, Option, Some, None, is_some}
+-- The keys of a configuration, and which of its zones are judged by them (RFC 8945, section 5.2).
+use Rattle.std.specs.Prelude.{ℕ, ◌≡◌, true, All, List, [], ◌∷◌, ◌++◌, Contains, map, Option, Some, None, is_some}
 use Rattle.dns_config.specs.declared.config.ZoneEntry.{ZoneEntry}
+use Rattle.dns_config.specs.declared.key.KeyEntry.{KeyEntry}
 use Rattle.dns_config.specs.declared.peer.AllowedNetwork.{AllowedNetwork}
 use Rattle.dns_config.specs.declared.peer.Peer.{Peer}
+use Rattle.dns_hmac.specs.declared.algorithm.Algorithm.{Algorithm}
 use Rattle.dns_tsig.specs.Keys.{KeyParts}
 use Rattle.dns_key_access.specs.Rules.{AreAccesses, peer_access, wants_key}
 use Rattle.dns_key_access.specs.declared.access.Access.{Access}
 use Rattle.dns_key_access.specs.declared.access.ZoneAccess.{ZoneAccess}
+
+-- the name and the algorithm of a key, and those that its entry says
+abbrev pub named_key : KeyParts → List (List ℕ) × Algorithm
+named_key k = (k.name, k.algorithm)
+
+abbrev pub named_entry : KeyEntry → List (List ℕ) × Algorithm
+named_entry e = (e.name.name, e.algorithm.algorithm)
 
 -- the networks to which a zone is transferred: its own, and else those for all zones
 abbrev pub rules_by : {V : Type 0} → (V → List AllowedNetwork) → List AllowedNetwork → Option V → List AllowedNetwork
@@ -23,12 +32,19 @@ pub record Judges (permitted : List Access → Type 0) (apex : List (List ℕ)) 
   pub named : zone.apex ≡ apex
   pub by_all : permitted zone.allowed.items
 
--- where one of its networks wants a key, who asks for a transfer is judged by all of them
+-- a zone is after the others, with what it permits
+pub record AddsZone (apex : List (List ℕ)) (allowed : List Access) (before after : List ZoneAccess) : Type 0 where
+  pub zone : ZoneAccess
+  pub named : zone.apex ≡ apex
+  pub permitted : zone.allowed.items ≡ allowed
+  pub added : after ≡ before ++ zone ∷ []
+
+-- if one of its networks wants a key, who asks for a transfer is judged by all of them
 abbrev pub TransferIsJudged : List KeyParts → List AllowedNetwork → ZoneEntry → List ZoneAccess → Type 0
 TransferIsJudged keys for_all e zones =
     wants_key (rules_of for_all e) ≡ true → Judges (AreAccesses keys (rules_of for_all e)) e.name.name zones
 
--- where a key is shared with its primary, who tells of a serial is judged by the primary's address and key
+-- if a key is shared with its primary, a NOTIFY is judged by the primary's address and key
 abbrev pub IsOfPeer : List KeyParts → Peer → List Access → Type 0
 IsOfPeer keys p allowed = map Some allowed ≡ peer_access keys p ∷ []
 
@@ -43,7 +59,7 @@ NotifyIsJudged keys e zones = notify_judged_by keys e.name.name zones e.primary
 abbrev pub Grows : List ZoneAccess → List ZoneAccess → Type 0
 Grows before after = (z : ZoneAccess) → Contains before z → Contains after z
 
--- each zone is judged where it wants a key
+-- each zone is judged if it wants a key
 pub record AreJudged (keys : List KeyParts) (for_all : List AllowedNetwork) (entries : List ZoneEntry)
     (transfers notifies : List ZoneAccess) : Type 0 where
   pub transferred : All (λ e. TransferIsJudged keys for_all e transfers) entries

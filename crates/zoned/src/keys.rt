@@ -1,14 +1,15 @@
 //! The keys of a configuration, and what wants one.
 
-ghost use Rattle.std.specs.Prelude.{IfOk, OnOk};
+ghost use Rattle.std.specs.Prelude.{◌≡◌, [], ◌∷◌, ◌++◌, IfOk, OnOk, Some, map};
 ghost use Rattle.dns_key_access.specs.Rules.{AreAccesses};
-ghost use Rattle.zoned.specs.Keys.{AreJudged, Grows, IsOfPeer, NotifyIsJudged, TransferIsJudged};
+ghost use Rattle.zoned.specs.Keys.{AddsZone, AreJudged, Grows, IsOfPeer, NotifyIsJudged, TransferIsJudged, named_entry, named_key, notify_judged_by, rules_of};
 
 use anyhow::{Context, bail};
 use dns_config::{AllowedNetwork, Config, KeyEntry, KeyName, Peer, ZoneEntry};
 use dns_key_access::{
     Access, KeyAccess, RuleError, ZoneAccess, peer_access, wants_key, zone_access,
 };
+use dns_name::{Name, OutOfMemory};
 use dns_peer_keys::PeerKeys;
 use std::alloc::Global;
 use std::fs::File;
@@ -44,7 +45,10 @@ fn secret_text(rt: &HostRuntime, entry: &KeyEntry) -> anyhow::Result<String> {
 }
 
 /// Puts a key after the others.
-fn add_key(rt: &HostRuntime, keys: &mut PeerKeys, entry: &KeyEntry) -> anyhow::Result<()> {
+#[tactic(auto, using(crate::proofs::KeysRead::one_read))]
+fn add_key(rt: &HostRuntime, keys: &mut PeerKeys, entry: &KeyEntry) -> anyhow::Result<()>
+    ensures { OnOk result (map named_key keys.new ≡ map named_key keys.old ++ named_entry entry.now ∷ []) }
+{
     let text = secret_text(rt, entry)?;
     let name = entry.name.name.try_clone(rt.alloc())?;
     let algorithm = entry.algorithm.algorithm;
@@ -52,11 +56,16 @@ fn add_key(rt: &HostRuntime, keys: &mut PeerKeys, entry: &KeyEntry) -> anyhow::R
     Ok(())
 }
 
-/// The keys of a configuration, each read and judged.
-pub(crate) fn load_keys(rt: &HostRuntime, config: &Config) -> anyhow::Result<PeerKeys> {
+/// The keys of a configuration in their order, each read and judged.
+#[tactic(auto, using(crate::proofs::KeysRead::more_read, crate::proofs::KeysRead::all_read))]
+pub(crate) fn load_keys(rt: &HostRuntime, config: &Config) -> anyhow::Result<PeerKeys>
+    ensures { IfOk result (λ keys. map named_key keys ≡ map named_entry config.now.key.items) }
+{
     let mut keys = PeerKeys::new(rt.alloc());
-    for entry in config.key.iter() {
-        add_key(rt, &mut keys, entry).context(format_args!("key {}", entry.name.name))?;
+    'keys: for entry in config.key.as_slice() {
+        if let Err(fault) = add_key(rt, &mut keys, entry) {
+            return Err(fault.context(format_args!("key {}", entry.name.name)));
+        }
     }
     Ok(keys)
 }
@@ -87,6 +96,30 @@ fn access_of(
     }
 }
 
+/// The networks to which a zone is transferred: its own, and else those for all zones.
+fn rules_of<'a>(for_all: &'a [AllowedNetwork], entry: &'a ZoneEntry) -> &'a [AllowedNetwork]
+    ensures { result.now ≡ rules_of for_all.now entry.now }
+{
+    match &entry.allow_transfer {
+        Some(own) => own.as_slice(),
+        None => for_all,
+    }
+}
+
+/// Puts a zone after the others, with what it permits.
+fn push_zone(
+    alloc: Global,
+    apex: &Name,
+    allowed: Vec<Access>,
+    zones: &mut Vec<ZoneAccess>,
+) -> Result<(), OutOfMemory>
+    ensures { OnOk result (AddsZone apex.now allowed.items zones.old.items zones.new.items) }
+{
+    let apex = apex.try_clone(alloc)?;
+    zones.push(ZoneAccess { apex, allowed })?;
+    Ok(())
+}
+
 /// Adds who may transfer a zone, if one of its networks wants a key.
 fn add_transfers(
     alloc: Global,
@@ -98,15 +131,12 @@ fn add_transfers(
     ensures judged { OnOk result (TransferIsJudged keys.now for_all.now entry.now zones.new.items) }
     ensures kept { OnOk result (Grows zones.old.items zones.new.items) }
 {
-    let rules = match &entry.allow_transfer {
-        Some(own) => own.as_slice(),
-        None => for_all,
-    };
-    if wants_key(rules) {
-        let apex = entry.name.name.try_clone(alloc)?;
-        let allowed = access_of(alloc, keys, rules)?;
-        zones.push(ZoneAccess { apex, allowed })?;
+    let rules = rules_of(for_all, entry);
+    if !wants_key(rules) {
+        return Ok(());
     }
+    let allowed = access_of(alloc, keys, rules)?;
+    push_zone(alloc, &entry.name.name, allowed, zones)?;
     Ok(())
 }
 
@@ -122,7 +152,26 @@ fn access_of_peer(alloc: Global, keys: &PeerKeys, peer: &Peer) -> anyhow::Result
     Ok(allowed)
 }
 
-/// Adds who may tell of a zone, where a key is shared with its primary.
+/// Adds whose NOTIFY of a zone is taken, if a key is shared with this primary.
+fn add_notify(
+    alloc: Global,
+    keys: &PeerKeys,
+    apex: &Name,
+    peer: &Peer,
+    zones: &mut Vec<ZoneAccess>,
+) -> anyhow::Result<()>
+    ensures judged { OnOk result (notify_judged_by keys.now apex.now zones.new.items (Some peer.now)) }
+    ensures kept { OnOk result (Grows zones.old.items zones.new.items) }
+{
+    if peer.key.is_none() {
+        return Ok(());
+    }
+    let allowed = access_of_peer(alloc, keys, peer)?;
+    push_zone(alloc, apex, allowed, zones)?;
+    Ok(())
+}
+
+/// Adds whose NOTIFY of a zone is taken, if it has a primary with which a key is shared.
 fn add_notifies(
     alloc: Global,
     keys: &PeerKeys,
@@ -132,17 +181,13 @@ fn add_notifies(
     ensures judged { OnOk result (NotifyIsJudged keys.now entry.now zones.new.items) }
     ensures kept { OnOk result (Grows zones.old.items zones.new.items) }
 {
-    if let Some(peer) = &entry.primary {
-        if peer.key.is_some() {
-            let apex = entry.name.name.try_clone(alloc)?;
-            let allowed = access_of_peer(alloc, keys, peer)?;
-            zones.push(ZoneAccess { apex, allowed })?;
-        }
+    match &entry.primary {
+        Some(peer) => add_notify(alloc, keys, &entry.name.name, peer, zones),
+        None => Ok(()),
     }
-    Ok(())
 }
 
-/// Refuses keys that aren't known, of those who are told of a zone.
+/// Refuses a key that isn't known, of an address to which the NOTIFYs of a zone are sent.
 fn refuse_unknown(keys: &PeerKeys, entry: &ZoneEntry) -> anyhow::Result<()> {
     for peer in entry.notify.iter() {
         if peer_access(keys, peer).is_none() {
