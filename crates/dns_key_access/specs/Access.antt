@@ -1,4 +1,4 @@
--- Who may transfer a zone, and who may tell of it: an address, and the key of its request where one is wanted (RFC 8945, section 5.2).
+-- Who may transfer a zone, and whose NOTIFY is taken: by the address, and the key of the request if one is wanted (RFC 8945, section 5.2).
 use Rattle.std.specs.Prelude.{ℕ, Bool, true, false, ◌&&◌, not, List, nat_eq, Option, Some, None, if◌then◌else◌}
 use Rattle.std.specs.List.{list_any}
 use Rattle.dns_base.specs.Header.{header_of}

@@ -129,7 +129,7 @@ fn asks_transfer(question: &QuestionRef<'_>) -> bool
 }
 
 impl KeyAccess {
-    /// REFUSED, where a transfer isn't permitted.
+    /// REFUSED, if a transfer isn't permitted.
     fn transfer_refusal(&self, question: &QuestionRef<'_>, asker: Asker) -> Option<OptRcode>
         ensures { result ≡ transfer_refusal self.now question.now.qname asker }
     {
@@ -139,7 +139,7 @@ impl KeyAccess {
         None
     }
 
-    /// NOTAUTH, where a NOTIFY isn't permitted.
+    /// NOTAUTH, if a NOTIFY isn't permitted.
     fn notify_refusal(&self, question: &QuestionRef<'_>, asker: Asker) -> Option<OptRcode>
         ensures { result ≡ notify_refusal self.now question.now.qname asker }
     {

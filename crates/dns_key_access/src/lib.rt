@@ -1,11 +1,11 @@
-//! Who may transfer a zone and who may tell of it, by address and key (RFC 8945, section 5.2; RFC 5936, section 5; RFC 1996, section
-//! 3.11).
+//! Who may transfer a zone and whose NOTIFY is taken, by address and key (RFC 8945, section 5.2; RFC 5936, section 5; RFC 1996,
+//! section 3.11).
 //!
-//! - `Access` permits a network, and wants a key of its requests where it names one. `ZoneAccess` are those of a zone.
+//! - `Access` permits a network, and wants a key of its requests if it names one. `ZoneAccess` are those of a zone.
 //! - `KeyAccess` are the zones whose transfers or NOTIFYs want a key. `zone_access` and `peer_access` make what is permitted of a
 //!   zone of its configuration, and `wants_key` says whether a key is wanted at all. `RuleError` says which rule isn't made.
 //! - `KeyAccessSvc` is a layer round a service. Its requests have the place of the key that they were verified under as their
-//!   metadata, as TsigMiddlewareSvc of dns_signing tells it. Those of the service inside have none.
+//!   metadata, as TsigMiddlewareSvc of dns_signing passes it on. Those of the service inside have none.
 //!
 //! ```text
 //! request, key -> AXFR, IXFR of a zone with rules: no rule permits address and key ? REFUSED : inside

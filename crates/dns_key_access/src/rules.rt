@@ -41,7 +41,7 @@ fn access_in(keys: &PeerKeys, rule: &AllowedNetwork) -> Option<Access>
     }
 }
 
-/// What permits another server: its address, and the key that is shared with it. Nothing where it names a key that isn't there.
+/// What permits another server: its address, and the key that is shared with it. Nothing if it names a key that isn't there.
 pub fn peer_access(keys: &PeerKeys, peer: &Peer) -> Option<Access>
     ensures { result ≡ peer_access keys.now peer.now }
 {
