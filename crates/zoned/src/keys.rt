@@ -1,6 +1,7 @@
 //! The keys of a configuration, and what wants one.
 
 ghost use Rattle.std.specs.Prelude.{◌≡◌, [], ◌∷◌, ◌++◌, IfOk, OnOk, Some, map};
+ghost use Rattle.std.specs.Arc.{arc_value};
 ghost use Rattle.dns_key_access.specs.Rules.{AreAccesses};
 ghost use Rattle.zoned.specs.Keys.{AddsZone, AreJudged, Grows, IsOfPeer, NotifyIsJudged, TransferIsJudged, named_entry, named_key, notify_judged_by, rules_of};
 
@@ -9,12 +10,14 @@ use dns_config::{AllowedNetwork, Config, KeyEntry, KeyName, Peer, ZoneEntry};
 use dns_key_access::{
     Access, KeyAccess, RuleError, ZoneAccess, peer_access, wants_key, zone_access,
 };
+use dns_listener::KeyRules;
 use dns_name::{Name, OutOfMemory};
 use dns_peer_keys::PeerKeys;
 use std::alloc::Global;
 use std::fs::File;
 use std::io::Read;
 use std::os::unix::fs::PermissionsExt;
+use std::sync::Arc;
 
 /// What others than the owner may do with a file.
 const OTHERS: u32 = 0o077;
@@ -58,7 +61,7 @@ fn add_key(rt: &HostRuntime, keys: &mut PeerKeys, entry: &KeyEntry) -> anyhow::R
 
 /// The keys of a configuration in their order, each read and judged.
 #[tactic(auto, using(crate::proofs::KeysRead::more_read, crate::proofs::KeysRead::all_read))]
-pub(crate) fn load_keys(rt: &HostRuntime, config: &Config) -> anyhow::Result<PeerKeys>
+fn load_keys(rt: &HostRuntime, config: &Config) -> anyhow::Result<PeerKeys>
     ensures { IfOk result (λ keys. map named_key keys ≡ map named_entry config.now.key.items) }
 {
     let mut keys = PeerKeys::new(rt.alloc());
@@ -216,11 +219,7 @@ fn add_zone(
 }
 
 /// What of a configuration is judged by keys. Each key that is named has to be known.
-pub(crate) fn load_access(
-    alloc: Global,
-    config: &Config,
-    keys: &PeerKeys,
-) -> anyhow::Result<KeyAccess>
+fn load_access(alloc: Global, config: &Config, keys: &PeerKeys) -> anyhow::Result<KeyAccess>
     ensures { IfOk result (λ access. AreJudged keys.now config.now.allow_transfer.items config.now.zone.items
         access.transfers.items access.notifies.items) }
 {
@@ -235,4 +234,46 @@ pub(crate) fn load_access(
         }
     }
     Ok(access)
+}
+
+/// The keys of a configuration that were read and judged, and what wants one.
+#[derive(Drop)]
+pub(crate) struct Keys {
+    pub(crate) shared: Arc<PeerKeys>,
+    access: Arc<KeyAccess>,
+}
+
+impl Keys {
+    /// Reads and judges the keys of a configuration.
+    pub(crate) fn of(rt: &HostRuntime, config: &Config) -> anyhow::Result<Keys>
+        ensures read { IfOk result (λ k. map named_key (arc_value k.shared) ≡ map named_entry config.now.key.items) }
+        ensures judged { IfOk result (λ k. AreJudged (arc_value k.shared) config.now.allow_transfer.items config.now.zone.items
+            (arc_value k.access).transfers.items (arc_value k.access).notifies.items) }
+    {
+        let keys = load_keys(rt, config)?;
+        let access = load_access(rt.alloc(), config, &keys)?;
+        let shared = Arc::new(rt.alloc(), keys)?;
+        let access = Arc::new(rt.alloc(), access)?;
+        Ok(Keys { shared, access })
+    }
+
+    /// These keys, shared once more.
+    pub(crate) fn again(&self) -> Result<Keys, OutOfMemory>
+        ensures shared { IfOk result (λ k. arc_value k.shared ≡ arc_value self.now.shared) }
+        ensures access { IfOk result (λ k. arc_value k.access ≡ arc_value self.now.access) }
+    {
+        let shared = Arc::try_clone(&self.shared)?;
+        let access = Arc::try_clone(&self.access)?;
+        Ok(Keys { shared, access })
+    }
+
+    /// What a listener needs of them.
+    pub(crate) fn rules(&self, alloc: Global) -> Result<KeyRules, OutOfMemory>
+        ensures keys { IfOk result (λ r. r.keys ≡ arc_value self.now.shared) }
+        ensures access { IfOk result (λ r. arc_value r.access ≡ arc_value self.now.access) }
+    {
+        let keys = self.shared.store(alloc)?;
+        let access = Arc::try_clone(&self.access)?;
+        Ok(KeyRules { keys, access })
+    }
 }

@@ -7,7 +7,7 @@ ghost use Rattle.dns_zone_copies.specs.Secondaries.{lacks_copy};
 ghost use Rattle.zoned.specs.Zones.{is_entry_named, without_data};
 
 use crate::configuration::load_config;
-use crate::served::Keys;
+use crate::keys::Keys;
 use anyhow::{Context, bail};
 use dns_config::{Config, ZoneEntry};
 use dns_generation::{Generation, ZoneSummary, networks};

@@ -1,56 +1,19 @@
 //! What is served at a time, with its number.
 
 use crate::configuration::load_config;
-use crate::keys::{load_access, load_keys};
+use crate::keys::Keys;
 use crate::load::{load_generation, refuse_twice, summaries_without};
 use anyhow::Context;
 use dns_authority::Authority;
 use dns_config::Config;
 use dns_generation::ZoneSummary;
-use dns_key_access::KeyAccess;
-use dns_listener::{KeyRules, ZoneService};
+use dns_listener::ZoneService;
 use dns_middleware::Settings;
 use dns_name::OutOfMemory;
-use dns_peer_keys::PeerKeys;
 use dns_secondary_service::Withholding;
 use dns_zone_copies::Secondary;
 use std::alloc::Global;
 use std::sync::Arc;
-
-/// The keys of a configuration that were read and judged, and what wants one.
-#[derive(Drop)]
-pub(crate) struct Keys {
-    pub(crate) shared: Arc<PeerKeys>,
-    access: Arc<KeyAccess>,
-}
-
-impl Keys {
-    /// Reads and judges the keys of a configuration.
-    pub(crate) fn of(rt: &HostRuntime, config: &Config) -> anyhow::Result<Keys> {
-        let keys = load_keys(rt, config)?;
-        let access = load_access(rt.alloc(), config, &keys)?;
-        Ok(Keys {
-            shared: Arc::new(rt.alloc(), keys)?,
-            access: Arc::new(rt.alloc(), access)?,
-        })
-    }
-
-    /// These keys, shared once more.
-    fn again(&self) -> Result<Keys, OutOfMemory> {
-        Ok(Keys {
-            shared: Arc::try_clone(&self.shared)?,
-            access: Arc::try_clone(&self.access)?,
-        })
-    }
-
-    /// What a listener needs of them.
-    pub(crate) fn rules(&self, alloc: Global) -> Result<KeyRules, OutOfMemory> {
-        Ok(KeyRules {
-            keys: self.shared.store(alloc)?,
-            access: Arc::try_clone(&self.access)?,
-        })
-    }
-}
 
 /// The zones of a configuration that were read and judged, what answers over them, and what is said of each, in their order.
 #[derive(Drop)]
