@@ -5,7 +5,7 @@ ghost use Rattle.std.specs.Arc.{arc_value};
 ghost use Rattle.dns_key_access.specs.Rules.{AreAccesses};
 ghost use Rattle.zoned.specs.Keys.{AddsZone, AreJudged, Grows, IsOfPeer, NotifyIsJudged, TransferIsJudged, named_entry, named_key, notify_judged_by, rules_of};
 
-use anyhow::{Context, bail};
+use anyhow::{Context, anyhow, bail};
 use dns_config::{AllowedNetwork, Config, KeyEntry, KeyName, Peer, ZoneEntry};
 use dns_key_access::{
     Access, KeyAccess, RuleError, ZoneAccess, peer_access, wants_key, zone_access,
@@ -74,10 +74,10 @@ fn load_keys(rt: &HostRuntime, config: &Config) -> anyhow::Result<PeerKeys>
 }
 
 /// Says that a key isn't known.
-fn unknown<T>(name: &Option<KeyName>) -> anyhow::Result<T> {
+fn unknown(name: &Option<KeyName>) -> anyhow::Error {
     match name {
-        Some(named) => bail!("the key {} isn't known", named.name),
-        None => bail!("a key isn't known"),
+        Some(named) => anyhow!("the key {} isn't known", named.name),
+        None => anyhow!("a key isn't known"),
     }
 }
 
@@ -92,8 +92,8 @@ fn access_of(
     match zone_access(alloc, keys, rules) {
         Ok(made) => Ok(made),
         Err(RuleError::UnknownKey(place)) => match rules.get(place) {
-            Some(rule) => unknown(&rule.key),
-            None => unknown(&None),
+            Some(rule) => Err(unknown(&rule.key)),
+            None => Err(unknown(&None)),
         },
         Err(RuleError::OutOfMemory) => bail!("out of memory"),
     }
@@ -150,7 +150,7 @@ fn access_of_peer(alloc: Global, keys: &PeerKeys, peer: &Peer) -> anyhow::Result
     let mut allowed = Vec::new(alloc);
     match peer_access(keys, peer) {
         Some(access) => allowed.push(access)?,
-        None => return unknown(&peer.key),
+        None => return Err(unknown(&peer.key)),
     }
     Ok(allowed)
 }
@@ -194,7 +194,7 @@ fn add_notifies(
 fn refuse_unknown(keys: &PeerKeys, entry: &ZoneEntry) -> anyhow::Result<()> {
     for peer in entry.notify.iter() {
         if peer_access(keys, peer).is_none() {
-            return unknown(&peer.key);
+            return Err(unknown(&peer.key));
         }
     }
     Ok(())
