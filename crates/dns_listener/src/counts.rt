@@ -89,7 +89,7 @@ fn all_replies(counts: &ReplyCounts) -> [ReplyNumbers; 8] {
     ]
 }
 
-/// Logs what became of a question for a transfer.
+/// Logs what became of a question for a transfer, or that a NOTIFY or an SOA query was refused.
 fn log_note<R: Log>(rt: &R, note: &TransferNote) {
     let client = SocketAddrText(note.client);
     match note.news {
@@ -100,6 +100,12 @@ fn log_note<R: Log>(rt: &R, note: &TransferNote) {
         }
         TransferNews::Refused(code) => {
             warn!(rt; "{}: a transfer to {client} is refused with code {}", note.apex, code.to_int())
+        }
+        TransferNews::NotifyRefused(code) => {
+            warn!(rt; "{}: a NOTIFY from {client} is refused with code {}", note.apex, code.to_int())
+        }
+        TransferNews::SoaRefused => {
+            warn!(rt; "{}: an SOA query from {client} isn't taken: its signature is wrong", note.apex)
         }
     }
 }

@@ -3,7 +3,7 @@
 ghost use Rattle.std.specs.Prelude.{◌≡◌, ◌≢◌, IfOk, IsSome};
 ghost use Rattle.std.specs.Arc.{arc_value};
 
-use crate::layers::serve_zones;
+use crate::layers::{Outside, serve_zones};
 use crate::listener::Listener;
 use crate::offer::Offer;
 use crate::place::Place;
@@ -68,8 +68,10 @@ where
             target,
             nsid,
             tally,
+            rules,
         } = offer;
-        serve_zones(rt, alloc, place, tally, &settings, nsid, service, target)
+        let outside = Outside { tally, rules };
+        serve_zones(rt, alloc, place, outside, &settings, nsid, service, target)
     }
 }
 

@@ -1,2 +1,3 @@
 pub mod Secondaries
 pub mod Targets
+pub mod Replies

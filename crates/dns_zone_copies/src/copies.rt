@@ -1,18 +1,20 @@
 //! The copies of all zones that a server is secondary of.
 
-ghost use Rattle.std.specs.Prelude.{◌≡◌, ◌≤◌, true, IfNone, IfOk, IfSome, OnOk, is_some, string_bytes};
+ghost use Rattle.std.specs.Prelude.{◌≡◌, ◌≤◌, true, IfNone, IfOk, IfSome, OnOk, Some, is_some, option_map, string_bytes};
 ghost use Rattle.std.specs.Arc.{arc_value};
 ghost use Rattle.std.specs.List.{position};
-ghost use Rattle.dns_zone_copies.specs.Secondaries.{continued, is_of};
+ghost use Rattle.dns_zone_copies.specs.Secondaries.{continued, is_of, key_shared};
 ghost use Rattle.dns_zone_copies.specs.Targets.{watched_zones};
 
 use crate::checking::Checking;
 use crate::copy_file;
 use crate::secondary::Secondary;
 use crate::target::CopiesTarget;
-use dns_config::{Config, ZoneEntry};
+use anyhow::bail;
+use dns_config::{Config, KeyName, ZoneEntry};
 use dns_generation::ZoneSummary;
 use dns_name::{OutOfMemory, SocketAddr};
+use dns_peer_keys::{Key, PeerKeys};
 use dns_secondary::SoaTimers;
 use log::Log;
 use std::alloc::{AllocError, Global};
@@ -87,6 +89,36 @@ fn taken_out(secondaries: &mut Vec<Secondary>, entry: &ZoneEntry) -> Option<Seco
     }
 }
 
+/// The key of a name, if one is named.
+fn key_of(keys: &PeerKeys, named: &Option<KeyName>) -> anyhow::Result<Option<Arc<Key>>>
+    ensures { IfOk result (λ key. key_shared keys.now named.now ≡ Some (option_map arc_value key)) }
+{
+    match named {
+        Some(named) => match keys.get(&named.name) {
+            Some((_, key)) => Ok(Some(Arc::try_clone(key)?)),
+            None => bail!("no key has the name {}", named.name),
+        },
+        None => Ok(None),
+    }
+}
+
+/// The keys that are shared with the primaries of a configuration's zones, each at the place of its zone.
+fn keys_of_primaries(
+    alloc: Global,
+    keys: &PeerKeys,
+    entries: &[ZoneEntry],
+) -> anyhow::Result<Vec<Option<Arc<Key>>>> {
+    let mut shared = Vec::new(alloc);
+    for entry in entries {
+        let key = match &entry.primary {
+            Some(peer) => key_of(keys, &peer.key)?,
+            None => None,
+        };
+        shared.push(key)?;
+    }
+    Ok(shared)
+}
+
 /// The secondary of an entry with a primary: the one that was there before, if it was, and else a new one. What is served was
 /// current at a moment.
 fn continued(
@@ -94,18 +126,20 @@ fn continued(
     before: Option<Secondary>,
     entry: &ZoneEntry,
     primary: SocketAddr,
+    key: Option<Arc<Key>>,
     served: Option<SoaTimers>,
     current: u64,
     now: u64,
 ) -> Result<Secondary, OutOfMemory>
-    ensures { IfOk result (λ s. s ≡ continued before entry.now.name.name primary (string_bytes entry.now.file) served current now) }
+    ensures { IfOk result (λ s. s ≡ continued before entry.now.name.name primary (option_map arc_value key)
+        (string_bytes entry.now.file) served current now) }
 {
     match before {
         Some(mut secondary) => {
-            secondary.follow(alloc, entry, served, current, now)?;
+            secondary.follow(alloc, entry, key, served, current, now)?;
             Ok(secondary)
         }
-        None => Secondary::new(alloc, entry, primary, served, current),
+        None => Secondary::new(alloc, entry, primary, key, served, current),
     }
 }
 
@@ -115,34 +149,37 @@ fn secondary_of<R: Files + Clock>(
     alloc: Global,
     before: &mut Vec<Secondary>,
     entry: &ZoneEntry,
-    summary: &ZoneSummary,
+    key: Option<Arc<Key>>,
+    served: Option<SoaTimers>,
     now: u64,
 ) -> Result<Option<Secondary>, OutOfMemory>
     ensures { IfOk result (λ o. is_some o ≡ is_some entry.now.primary) }
 {
-    let primary = match entry.primary {
-        Some(endpoint) => endpoint.address,
+    let primary = match &entry.primary {
+        Some(peer) => peer.address,
         None => return Ok(None),
     };
     let found = taken_out(before, entry);
     let current = copy_file::current(rt, entry.file.as_str(), now);
-    let secondary = continued(alloc, found, entry, primary, summary.timers, current, now)?;
+    let secondary = continued(alloc, found, entry, primary, key, served, current, now)?;
     Ok(Some(secondary))
 }
 
-/// The secondaries of a configuration with these summaries: those from before that are still in it, and new ones.
+/// The secondaries of a configuration with these keys and summaries: those from before that are still in it, and new ones.
 fn follow_all<R: Files + Clock>(
     rt: &R,
     alloc: Global,
     before: &mut Vec<Secondary>,
     config: &Config,
+    keys: Vec<Option<Arc<Key>>>,
     summaries: &[ZoneSummary],
     now: u64,
 ) -> Result<Vec<Secondary>, OutOfMemory> {
     let mut secondaries = Vec::new(alloc);
     before.reverse();
-    for (entry, summary) in config.zone.iter().zip(summaries.iter()) {
-        if let Some(secondary) = secondary_of(rt, alloc, before, entry, summary, now)? {
+    for ((entry, summary), key) in config.zone.iter().zip(summaries.iter()).zip(keys) {
+        let served = summary.timers;
+        if let Some(secondary) = secondary_of(rt, alloc, before, entry, key, served, now)? {
             secondaries.push(secondary)?;
         }
     }
@@ -175,7 +212,7 @@ fn look_at_all<R: Files + Clock + Log + Threads>(
 
 /// Begins checks that are due, in order, while there is room for them: how many secondaries were looked at, and how much room is
 /// left.
-fn begin_checks<R: Net + Log + Threads>(
+fn begin_checks<R: Net + Log + Threads + Clock + Copy + Send + 'static>(
     rt: &R,
     alloc: Global,
     secondaries: &mut [Secondary],
@@ -233,22 +270,24 @@ impl Copies {
         &self.target
     }
 
-    /// Goes on to the zones of a configuration with these summaries. A zone that was there before with its primary keeps what is
-    /// known of its copy, if that is served.
+    /// Goes on to the zones of a configuration with these keys and summaries. A zone that was there before with its primary keeps
+    /// what is known of its copy, if that is served. If a key isn't known, all stays.
     pub fn follow<R: Files + Clock>(
         &mut self,
         rt: &R,
         alloc: Global,
         config: &Config,
+        keys: &PeerKeys,
         summaries: &[ZoneSummary],
         now: u64,
-    ) -> Result<(), OutOfMemory>
+    ) -> anyhow::Result<()>
         ensures { OnOk result ((arc_value self.new.target).zones.items ≡ watched_zones self.new.secondaries.items) }
     {
+        let keys = keys_of_primaries(alloc, keys, config.zone.as_slice())?;
         let mut before = mem::replace(&mut self.secondaries, Vec::new(alloc));
-        self.secondaries = follow_all(rt, alloc, &mut before, config, summaries, now)?;
+        self.secondaries = follow_all(rt, alloc, &mut before, config, keys, summaries, now)?;
         self.target = target_of(alloc, self.secondaries.as_slice())?;
-        leave(&mut self.leaving, before)
+        Ok(leave(&mut self.leaving, before)?)
     }
 
     /// Discards the copies that are obsolete. Whether there were any.
@@ -287,7 +326,12 @@ impl Copies {
     }
 
     /// Begins the checks that are due, from the next one on.
-    fn begin_next<R: Net + Log + Threads>(&mut self, rt: &R, alloc: Global, now: u64) {
+    fn begin_next<R: Net + Log + Threads + Clock + Copy + Send + 'static>(
+        &mut self,
+        rt: &R,
+        alloc: Global,
+        now: u64,
+    ) {
         let room = self.room();
         let next = self.next.min(self.secondaries.len());
         let (first, last) = self.secondaries.as_mut_slice().split_at_mut(next);
@@ -301,7 +345,7 @@ impl Copies {
 
     /// Looks at each copy, and begins the checks that are due, as many as may go on at once. Whether another copy, or none, is
     /// served from now on.
-    pub fn look<R: Net + Files + Clock + Log + Threads>(
+    pub fn look<R: Net + Files + Clock + Log + Threads + Copy + Send + 'static>(
         &mut self,
         rt: &R,
         alloc: Global,

@@ -7,6 +7,7 @@ ghost use Rattle.dns_zone_copies.specs.Secondaries.{lacks_copy};
 ghost use Rattle.zoned.specs.Zones.{is_entry_named, without_data};
 
 use crate::configuration::load_config;
+use crate::keys::Keys;
 use anyhow::{Context, bail};
 use dns_config::{Config, ZoneEntry};
 use dns_generation::{Generation, ZoneSummary, networks};
@@ -28,8 +29,8 @@ fn load_zone(
     let text = fs::read(rt, file).context(format_args!("{file}"))?;
     let apex = &entry.name.name;
     let added = match &entry.allow_transfer {
-        Some(prefixes) => {
-            let allowed = networks(rt.alloc(), prefixes.as_slice())?;
+        Some(rules) => {
+            let allowed = networks(rt.alloc(), rules.as_slice())?;
             generation.add_for(rt.alloc(), apex, text.as_slice(), allowed)
         }
         None => generation.add(rt.alloc(), apex, text.as_slice()),
@@ -138,7 +139,7 @@ fn load_entry(
     secondaries: &[Secondary],
     entry: &ZoneEntry,
 ) -> anyhow::Result<()> {
-    match entry.primary {
+    match &entry.primary {
         Some(_) => load_copy(rt, generation, secondaries, entry),
         None => load_zone(rt, generation, entry),
     }
@@ -197,6 +198,7 @@ pub(crate) fn report(
 pub(crate) fn check(rt: &HostRuntime, path: &str) -> anyhow::Result<()> {
     let config = load_config(rt, path)?;
     refuse_twice(&config)?;
+    let _ = Keys::of(rt, &config).context(format_args!("{path}"))?;
     let generation = load_generation(rt, &config, &[])?;
     for endpoint in config.listen.iter() {
         println!(rt; "listen {}", SocketAddrText(endpoint.address))?;
