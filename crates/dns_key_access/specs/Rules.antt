@@ -7,8 +7,8 @@ use Rattle.dns_config.specs.declared.peer.Peer.{Peer}
 use Rattle.dns_tsig.specs.Keys.{KeyParts}
 use Rattle.dns_peer_keys.specs.PeerKeys.{key_named}
 use Rattle.dns_key_access.specs.declared.access.Access.{Access}
-use Rattle.dns_key_access.specs.declared.fault.RuleError.{RuleError}
-use Rattle.dns_key_access.specs.declared.fault.RuleError.TheVariants.{UnknownKey, OutOfMemory}
+use Rattle.dns_key_access.specs.declared.rule_error.RuleError.{RuleError}
+use Rattle.dns_key_access.specs.declared.rule_error.RuleError.TheVariants.{UnknownKey, OutOfMemory}
 
 -- the place of the key that is named, or that none is; nothing if no key has the name
 abbrev pub place_in : List KeyParts → Option KeyName → Option (Option ℕ)

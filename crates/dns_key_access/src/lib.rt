@@ -31,13 +31,13 @@
 #![tactic(auto)]
 
 mod access;
-mod fault;
 mod laws;
 mod layer;
+mod rule_error;
 mod rules;
 
 pub use access::{Access, KeyAccess, ZoneAccess};
-pub use fault::RuleError;
 pub use laws::{wanted_keys_are_judged, without_rules_all_is_as_before};
 pub use layer::{AccessStream, KeyAccessSvc};
+pub use rule_error::RuleError;
 pub use rules::{peer_access, wants_key, zone_access};

@@ -5,7 +5,7 @@ ghost use Rattle.std.specs.List.{list_any};
 ghost use Rattle.dns_key_access.specs.Rules.{AreAccesses, HasRuleError, access_in, peer_access, place_in, wants_key};
 
 use crate::access::Access;
-use crate::fault::RuleError;
+use crate::rule_error::RuleError;
 use dns_authority::Network;
 use dns_config::{AllowedNetwork, KeyName, Peer};
 use dns_peer_keys::PeerKeys;

@@ -1,7 +1,7 @@
 -- NOTIFYs that are signed, and the answers to them (RFC 8945, section 5.3).
 use Rattle.std.specs.Prelude.{ℕ, ◌≡◌, List, [], Option, Some, None, Ok}
 use Rattle.dns_peer_keys.specs.Exchanges.{reply_of, request_stamp}
-use Rattle.dns_peer_keys.specs.declared.fault.SignedReplyError.{SignedReplyError}
+use Rattle.dns_peer_keys.specs.declared.error.SignedReplyError.{SignedReplyError}
 use Rattle.dns_tsig.specs.Found.{found}
 use Rattle.dns_tsig.specs.Keys.{KeyParts}
 use Rattle.dns_tsig.specs.Signed.{Signs}

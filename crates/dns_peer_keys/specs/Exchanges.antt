@@ -9,8 +9,8 @@ use Rattle.dns_tsig.specs.Found.{Signed}
 use Rattle.dns_tsig.specs.Keys.{KeyParts}
 use Rattle.dns_tsig.specs.Signed.{Signs}
 use Rattle.dns_tsig.specs.Verdicts.{message_refusal}
-use Rattle.dns_peer_keys.specs.declared.fault.SignedReplyError.{SignedReplyError}
-use Rattle.dns_peer_keys.specs.declared.fault.SignedReplyError.TheVariants.{Unsigned, Refused, NotVerified, OutOfMemory}
+use Rattle.dns_peer_keys.specs.declared.error.SignedReplyError.{SignedReplyError}
+use Rattle.dns_peer_keys.specs.declared.error.SignedReplyError.TheVariants.{Unsigned, Refused, NotVerified, OutOfMemory}
 use Rattle.dns_peer_keys.specs.declared.request.SignedRequest.{SignedRequest}
 
 -- seconds, as a TSIG can say them

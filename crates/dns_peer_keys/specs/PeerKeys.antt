@@ -4,8 +4,8 @@ use Rattle.dns_hmac.specs.declared.algorithm.Algorithm.{Algorithm}
 use Rattle.dns_name.specs.Canonical.{same_name}
 use Rattle.dns_tsig.specs.Keys.{KeyParts}
 use Rattle.dns_tsig.specs.Secrets.{key_written}
-use Rattle.dns_peer_keys.specs.declared.fault.AddKeyError.{AddKeyError}
-use Rattle.dns_peer_keys.specs.declared.fault.AddKeyError.TheVariants.{Twice, Empty, NotBase64, OutOfMemory}
+use Rattle.dns_peer_keys.specs.declared.error.AddKeyError.{AddKeyError}
+use Rattle.dns_peer_keys.specs.declared.error.AddKeyError.TheVariants.{Twice, Empty, NotBase64, OutOfMemory}
 
 -- the first key of a name, with its place among keys whose first has this one
 abbrev pub key_named_from : ℕ → List (List ℕ) → List KeyParts → Option (ℕ × KeyParts)

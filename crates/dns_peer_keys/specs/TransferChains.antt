@@ -6,7 +6,7 @@ use Rattle.dns_tsig.specs.Found.{found}
 use Rattle.dns_tsig.specs.Keys.{KeyParts}
 use Rattle.dns_tsig.specs.Streams.{Chain}
 use Rattle.dns_peer_keys.specs.Exchanges.{said_of}
-use Rattle.dns_peer_keys.specs.declared.fault.SignedReplyError.{SignedReplyError}
+use Rattle.dns_peer_keys.specs.declared.error.SignedReplyError.{SignedReplyError}
 
 -- the key, and what is kept of the messages
 pub record TransferParts : Type 0 where

@@ -25,14 +25,14 @@
 //! The clock is handed in. Nothing here prints a secret: neither `PeerKeys` nor `Key` has a Debug.
 #![tactic(auto)]
 
-mod fault;
+mod error;
 mod peer_keys;
 mod reply;
 mod request;
 mod transfer;
 
 pub use dns_tsig::{Algorithm, Key, KeyStore, Mac};
-pub use fault::{AddKeyError, SignedReplyError};
+pub use error::{AddKeyError, SignedReplyError};
 pub use peer_keys::PeerKeys;
 pub use reply::verified_reply;
 pub use request::{SignedRequest, sign_request};

@@ -7,7 +7,7 @@ ghost use Rattle.dns_tsig.specs.Keys.{KeyParts};
 ghost use Rattle.dns_tsig.specs.Secrets.{key_written};
 ghost use Rattle.dns_peer_keys.specs.PeerKeys.{AddsKey, HasAddKeyError, key_named};
 
-use crate::fault::AddKeyError;
+use crate::error::AddKeyError;
 use dns_name::{Name, OutOfMemory, names_are_ordered};
 use dns_tsig::{Algorithm, Key, KeyError, KeyStore};
 use std::alloc::Global;

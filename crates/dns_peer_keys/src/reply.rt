@@ -5,7 +5,7 @@ ghost use Rattle.dns_hmac.specs.Macs.{octets_of};
 ghost use Rattle.dns_tsig.specs.Found.{found};
 ghost use Rattle.dns_peer_keys.specs.Exchanges.{HasSignedReplyError, by_error, reply_of, said_of, verified};
 
-use crate::fault::SignedReplyError;
+use crate::error::SignedReplyError;
 use crate::request::tsig_time;
 use dns_message::Message;
 use dns_name::OutOfMemory;

@@ -9,7 +9,7 @@ ghost use Rattle.dns_tsig.specs.Streams.{Chain, chain_behind, is_whole, taken};
 ghost use Rattle.dns_peer_keys.specs.Exchanges.{tsig_time};
 ghost use Rattle.dns_peer_keys.specs.TransferChains.{IsRefusedAs};
 
-use crate::fault::SignedReplyError;
+use crate::error::SignedReplyError;
 use crate::reply::fault_of;
 use crate::request::tsig_time;
 use dns_message::Message;

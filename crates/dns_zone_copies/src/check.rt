@@ -186,7 +186,9 @@ fn receive_more<R: Clock, S: Read>(
     stream: &mut S,
     replies: &mut Option<TransferReplies>,
     stop: &AtomicBool,
-) -> anyhow::Result<Message> {
+) -> anyhow::Result<Message>
+    ensures { IfOk result (GoesOnTo replies.old replies.new) }
+{
     let message = receive(alloc, stream, stop)?;
     go_on(rt, replies, &message)?;
     Ok(message)

@@ -45,7 +45,7 @@ pub enum SignedReplyError {
 }
 
 impl From<OutOfMemory> for SignedReplyError {
-    ghost use Rattle.dns_peer_keys.specs.declared.fault.SignedReplyError.TheVariants.{OutOfMemory as NoMemory};
+    ghost use Rattle.dns_peer_keys.specs.declared.error.SignedReplyError.TheVariants.{OutOfMemory as NoMemory};
 
     ghost from_gives = { λ _ fault. fault ≡ NoMemory };
 
