@@ -1,21 +1,32 @@
 -- The keys of a configuration, and which of its zones are judged by them (RFC 8945, section 5.2).
-use Rattle.std.specs.Prelude.{ℕ, ◌≡◌, true, All, List, [], ◌∷◌, ◌++◌, Contains, map, Option, Some, None, is_some}
+use Rattle.std.specs.Prelude.{ℕ, ◌≡◌, true, All, List, [], ◌∷◌, ◌++◌, Contains, map, Option, Some, None, is_some, string_bytes}
 use Rattle.dns_config.specs.declared.config.ZoneEntry.{ZoneEntry}
 use Rattle.dns_config.specs.declared.key.KeyEntry.{KeyEntry}
+use Rattle.dns_config.specs.declared.key.KeySecret.{KeySecret}
 use Rattle.dns_config.specs.declared.peer.AllowedNetwork.{AllowedNetwork}
 use Rattle.dns_config.specs.declared.peer.Peer.{Peer}
-use Rattle.dns_hmac.specs.declared.algorithm.Algorithm.{Algorithm}
 use Rattle.dns_tsig.specs.Keys.{KeyParts}
+use Rattle.dns_tsig.specs.Secrets.{key_written}
 use Rattle.dns_key_access.specs.Rules.{AreAccesses, peer_access, wants_key}
 use Rattle.dns_key_access.specs.declared.access.Access.{Access}
 use Rattle.dns_key_access.specs.declared.access.ZoneAccess.{ZoneAccess}
 
--- the name and the algorithm of a key, and those that its entry says
-abbrev pub named_key : KeyParts → List (List ℕ) × Algorithm
-named_key k = (k.name, k.algorithm)
+-- the text of a key's secret: that which stands in its entry, if one does, and else what its file has
+abbrev pub IsSecretText : Option KeySecret → List ℕ → Type 0
+IsSecretText None text = Unit {0}
+IsSecretText (Some s) text = text ≡ string_bytes s.text
 
-abbrev pub named_entry : KeyEntry → List (List ℕ) × Algorithm
-named_entry e = (e.name.name, e.algorithm.algorithm)
+-- a key has the name and the algorithm of its entry, and the secret that this text writes
+pub record IsKeyOf (e : KeyEntry) (k : KeyParts) : Type 0 where
+  pub text : List ℕ
+  pub stands : IsSecretText e.secret text
+  pub written : key_written e.name.name e.algorithm.algorithm text ≡ Some k
+
+-- the key of an entry is after the others
+pub record AddsKeyOf (e : KeyEntry) (before after : List KeyParts) : Type 0 where
+  pub key : KeyParts
+  pub made : IsKeyOf e key
+  pub added : after ≡ before ++ key ∷ []
 
 -- the networks to which a zone is transferred: its own, and else those for all zones
 abbrev pub rules_by : {V : Type 0} → (V → List AllowedNetwork) → List AllowedNetwork → Option V → List AllowedNetwork

@@ -1,9 +1,10 @@
 //! The keys of a configuration, and what wants one.
 
-ghost use Rattle.std.specs.Prelude.{◌≡◌, [], ◌∷◌, ◌++◌, IfOk, OnOk, Some, map};
+ghost use Rattle.std.specs.Prelude.{◌≡◌, IfOk, OnOk, Some, string_bytes};
 ghost use Rattle.std.specs.Arc.{arc_value};
+ghost use Rattle.std.specs.List.{AllZip};
 ghost use Rattle.dns_key_access.specs.Rules.{AreAccesses};
-ghost use Rattle.zoned.specs.Keys.{AddsZone, AreJudged, Grows, IsOfPeer, NotifyIsJudged, TransferIsJudged, named_entry, named_key, notify_judged_by, rules_of};
+ghost use Rattle.zoned.specs.Keys.{AddsKeyOf, AddsZone, AreJudged, Grows, IsKeyOf, IsOfPeer, IsSecretText, NotifyIsJudged, TransferIsJudged, notify_judged_by, rules_of};
 
 use anyhow::{Context, anyhow, bail};
 use dns_config::{AllowedNetwork, Config, KeyEntry, KeyName, Peer, ZoneEntry};
@@ -22,7 +23,7 @@ use std::sync::Arc;
 /// What others than the owner may do with a file.
 const OTHERS: u32 = 0o077;
 
-/// The text of a key's file, which nobody but its owner may read.
+/// The text of a key's file without blanks round it. Nobody but its owner may read or write the file.
 fn file_text(rt: &HostRuntime, path: &str) -> anyhow::Result<String> {
     let mut file = File::open(rt, path).context(format_args!("{path}"))?;
     let metadata = file.metadata().context(format_args!("{path}"))?;
@@ -32,11 +33,13 @@ fn file_text(rt: &HostRuntime, path: &str) -> anyhow::Result<String> {
     let mut text = String::new(rt.alloc());
     file.read_to_string(&mut text)
         .context(format_args!("{path}"))?;
-    Ok(text)
+    Ok(String::from_str(rt.alloc(), text.as_str().trim())?)
 }
 
 /// The secret of a key as it is written: in the configuration, or in a file of its own.
-fn secret_text(rt: &HostRuntime, entry: &KeyEntry) -> anyhow::Result<String> {
+fn secret_text(rt: &HostRuntime, entry: &KeyEntry) -> anyhow::Result<String>
+    ensures { IfOk result (λ text. IsSecretText entry.now.secret (string_bytes text)) }
+{
     match &entry.secret {
         Some(_) if entry.file.is_some() => bail!("it has both a secret and a file"),
         Some(secret) => Ok(String::from_str(rt.alloc(), secret.text.as_str())?),
@@ -47,22 +50,22 @@ fn secret_text(rt: &HostRuntime, entry: &KeyEntry) -> anyhow::Result<String> {
     }
 }
 
-/// Puts a key after the others.
+/// Puts the key of an entry after the others.
 #[tactic(auto, using(crate::proofs::KeysRead::one_read))]
 fn add_key(rt: &HostRuntime, keys: &mut PeerKeys, entry: &KeyEntry) -> anyhow::Result<()>
-    ensures { OnOk result (map named_key keys.new ≡ map named_key keys.old ++ named_entry entry.now ∷ []) }
+    ensures { OnOk result (AddsKeyOf entry.now keys.old keys.new) }
 {
     let text = secret_text(rt, entry)?;
     let name = entry.name.name.try_clone(rt.alloc())?;
     let algorithm = entry.algorithm.algorithm;
-    keys.add(rt.alloc(), name, algorithm, text.as_str().trim().as_bytes())?;
+    keys.add(rt.alloc(), name, algorithm, text.as_bytes())?;
     Ok(())
 }
 
 /// The keys of a configuration in their order, each read and judged.
 #[tactic(auto, using(crate::proofs::KeysRead::more_read, crate::proofs::KeysRead::all_read))]
 fn load_keys(rt: &HostRuntime, config: &Config) -> anyhow::Result<PeerKeys>
-    ensures { IfOk result (λ keys. map named_key keys ≡ map named_entry config.now.key.items) }
+    ensures { IfOk result (AllZip IsKeyOf config.now.key.items) }
 {
     let mut keys = PeerKeys::new(rt.alloc());
     'keys: for entry in config.key.as_slice() {
@@ -246,7 +249,7 @@ pub(crate) struct Keys {
 impl Keys {
     /// Reads and judges the keys of a configuration.
     pub(crate) fn of(rt: &HostRuntime, config: &Config) -> anyhow::Result<Keys>
-        ensures read { IfOk result (λ k. map named_key (arc_value k.shared) ≡ map named_entry config.now.key.items) }
+        ensures read { IfOk result (λ k. AllZip IsKeyOf config.now.key.items (arc_value k.shared)) }
         ensures judged { IfOk result (λ k. AreJudged (arc_value k.shared) config.now.allow_transfer.items config.now.zone.items
             (arc_value k.access).transfers.items (arc_value k.access).notifies.items) }
     {

@@ -17,8 +17,9 @@
 //! - Each function is safe, and returns except for those that wait.
 //! - A zone whose secondary has no copy is without data in what is read. So it is in what is served where zones can't be read
 //!   again.
-//! - The keys that are read are those of the configuration, by name and algorithm. A zone one of whose networks wants a key is
-//!   judged by all of them. One whose primary shares a key is judged by that (`Keys::of`).
+//! - The keys that are read are those of the configuration, in their order: by name, algorithm and the secret that stands there. A
+//!   zone one of whose networks wants a key is judged by all of them. One whose primary shares a key is judged by that
+//!   (`Keys::of`).
 //! - The status of the program: 0 if all was done, 1 with a line that says the fault, 2 for faulty words.
 //!
 //! # What a body could still get away with
