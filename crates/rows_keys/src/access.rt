@@ -35,7 +35,7 @@ impl Calls for Judging {
 #[derive(Drop)]
 struct NoSuchName;
 
-impl Service<()> for NoSuchName {
+impl<Meta: Drop> Service<Meta> for NoSuchName {
     type Stream = Once;
 
     type Future = Now<Once>;
@@ -44,7 +44,7 @@ impl Service<()> for NoSuchName {
 
     ghost hint = { λ s. hint_at_entry };
 
-    fn call(&self, alloc: Global, request: &mut Request<()>) -> Result<Now<Once>, OutOfMemory> {
+    fn call(&self, alloc: Global, request: &mut Request<Meta>) -> Result<Now<Once>, OutOfMemory> {
         let reply = mk_error_response(alloc, request.message(), OptRcode::NXDOMAIN)?;
         Ok(Now::new(Once::new(Ok(CallResult::new(reply)))))
     }
