@@ -6,7 +6,8 @@ ghost use Rattle.dns_config.specs.Configurations.{connection_of, denied_of, dgra
 
 use crate::address::Endpoint;
 use crate::fields::{AddressList, Identifier, ZoneName};
-use crate::prefix::Prefix;
+use crate::key::KeyEntry;
+use crate::peer::{AllowedNetwork, Peer};
 use crate::secret::Secret;
 use dns_events::{ConnectionConfig, DgramConfig, Settings, StreamConfig};
 use dns_name::{Addrs, IpAddr, OutOfMemory};
@@ -30,12 +31,15 @@ pub struct Config {
     pub nsid: Option<Identifier>,
     /// The networks to which its zones are transferred, except for those that have networks of their own.
     #[serde(default)]
-    pub allow_transfer: Vec<Prefix>,
+    pub allow_transfer: Vec<AllowedNetwork>,
     #[serde(default)]
     pub limits: Limits,
     #[serde(default)]
     pub timeouts: Timeouts,
     pub cookies: Option<Cookies>,
+    /// The keys that are shared with other servers.
+    #[serde(default)]
+    pub key: Vec<KeyEntry>,
     #[serde(default)]
     pub zone: Vec<ZoneEntry>,
 }
@@ -47,12 +51,12 @@ pub struct ZoneEntry {
     pub name: ZoneName,
     pub file: String,
     /// The networks to which it is transferred, in place of those for all zones.
-    pub allow_transfer: Option<Vec<Prefix>>,
+    pub allow_transfer: Option<Vec<AllowedNetwork>>,
     /// Where the zone is transferred from, if this server is a secondary of it.
-    pub primary: Option<Endpoint>,
+    pub primary: Option<Peer>,
     /// Who is told of a new serial (RFC 1996).
     #[serde(default)]
-    pub notify: Vec<Endpoint>,
+    pub notify: Vec<Peer>,
 }
 
 /// Limits, in octets and numbers.

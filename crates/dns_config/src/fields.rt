@@ -4,10 +4,11 @@ ghost use Rattle.std.specs.Prelude.{◌≡◌};
 ghost use Rattle.dns_config.specs.Configurations.{is_identifier};
 
 use crate::address::{Endpoint, PeerAddress, read_address, read_endpoint};
+use crate::key::{KeyAlgorithm, KeyName, KeySecret, read_algorithm};
 use crate::prefix::{Prefix, read_prefix};
 use crate::secret::{Secret, read_secret};
 use dns_name::{FromTextError, IpAddr, Name};
-use serde::{Deserialize, Deserializer, Format};
+use serde::{Deserialize, Deserializer, Format, Kind};
 use std::alloc::Global;
 use std::borrow::CowStr;
 
@@ -134,5 +135,47 @@ impl<'de> Deserialize<'de> for ZoneName {
             Err(FromTextError::OutOfMemory) => Err(from.no_memory()),
             Err(_) => Err(from.custom("no name of a zone")),
         }
+    }
+}
+
+impl<'de> Deserialize<'de> for KeyName {
+    fn deserialize<F: Format>(
+        alloc: Global,
+        from: &mut Deserializer<'de, '_, F>,
+    ) -> Result<KeyName, F::Error> {
+        let text = CowStr::deserialize(alloc, from)?;
+        match Name::from_text(alloc, text.as_str()) {
+            Ok(name) => Ok(KeyName { name }),
+            Err(FromTextError::OutOfMemory) => Err(from.no_memory()),
+            Err(_) => Err(from.custom("no name of a key")),
+        }
+    }
+}
+
+impl<'de> Deserialize<'de> for KeyAlgorithm {
+    fn deserialize<F: Format>(
+        alloc: Global,
+        from: &mut Deserializer<'de, '_, F>,
+    ) -> Result<KeyAlgorithm, F::Error> {
+        let text = CowStr::deserialize(alloc, from)?;
+        match read_algorithm(text.as_str()) {
+            Some(algorithm) => Ok(KeyAlgorithm { algorithm }),
+            None => Err(from.custom(
+                "no algorithm, which is hmac-sha256, hmac-sha384, hmac-sha512 or hmac-sha1",
+            )),
+        }
+    }
+}
+
+impl<'de> Deserialize<'de> for KeySecret {
+    fn deserialize<F: Format>(
+        alloc: Global,
+        from: &mut Deserializer<'de, '_, F>,
+    ) -> Result<KeySecret, F::Error> {
+        if !matches!(from.peek()?, Kind::Str) {
+            return Err(from.custom("no secret, which is a text in base64"));
+        }
+        let text = String::deserialize(alloc, from)?;
+        Ok(KeySecret { text })
     }
 }

@@ -6,7 +6,7 @@
 //! - `ZoneTextError` says why a text isn't served: a line and its reason, or why its records are no zone.
 //! - A zone with NSEC records is a signed one (RFC 4035, section 2.3). It is served with its chain, or refused if that isn't whole.
 //! - `ZoneSummary` is what is said of a zone: its SOA record and how many records it has.
-//! - `networks` are those of a configuration to which zones are transferred.
+//! - `networks` are those of a configuration to which zones are transferred, under a key or not.
 //!
 //! ```text
 //! Generation::new -> add, withhold, .. -> into_service: a service for the layers

@@ -1,3 +1,4 @@
 pub mod Access
 pub mod Layer
 pub mod Laws
+pub mod Rules

@@ -2,7 +2,8 @@
 //! section 3.11).
 //!
 //! - `Access` permits a network, and wants a key of its requests if it names one. `ZoneAccess` are those of a zone.
-//! - `KeyAccess` are the zones whose transfers or NOTIFYs want a key.
+//! - `KeyAccess` are the zones whose transfers or NOTIFYs want a key. `zone_access` and `peer_access` make what is permitted of a
+//!   zone of its configuration, and `wants_key` says whether a key is wanted at all. `RuleError` says which rule isn't made.
 //! - `KeyAccessSvc` is a layer round a service. Its requests have the place of the key that they were verified under as their
 //!   metadata, as TsigMiddlewareSvc of dns_signing passes it on. Those of the service inside have none.
 //!
@@ -21,16 +22,22 @@
 //! - A transfer that no rule of its zone permits is REFUSED, and such a NOTIFY is NOTAUTH: neither reaches the service inside
 //!   (`wanted_keys_are_judged`).
 //! - Without rules each request is answered as by the service inside (`without_rules_all_is_as_before`).
+//! - A rule that names a key is made with the place of that key. A name that no key has is refused.
 //!
 //! # What a body could still get away with
 //!
-//! That metadata is the key's place is up to the layer outside, and which rules a zone has to whoever makes `KeyAccess`.
+//! That metadata is the key's place is up to the layer outside. A rule that is left out permits nothing more only if another
+//! rule of its zone stands.
 #![tactic(auto)]
 
 mod access;
 mod laws;
 mod layer;
+mod rule_error;
+mod rules;
 
 pub use access::{Access, KeyAccess, ZoneAccess};
 pub use laws::{wanted_keys_are_judged, without_rules_all_is_as_before};
 pub use layer::{AccessStream, KeyAccessSvc};
+pub use rule_error::RuleError;
+pub use rules::{peer_access, wants_key, zone_access};

@@ -131,7 +131,7 @@ fn push_others(text: &mut String, numbers: &Numbers) -> Result<(), AllocError>
     writeln!(text, "transfers {begun} begun, {refused} refused")
 }
 
-/// Logs what became of a question for a transfer.
+/// Logs what became of a question for a transfer, or that a NOTIFY or an SOA query was refused.
 fn log_note<R: Log>(rt: &R, note: &TransferNote) {
     let client = SocketAddrText(note.client);
     match note.news {
@@ -142,6 +142,12 @@ fn log_note<R: Log>(rt: &R, note: &TransferNote) {
         }
         TransferNews::Refused(code) => {
             warn!(rt; "{}: a transfer to {client} is refused with code {}", note.apex, code.to_int())
+        }
+        TransferNews::NotifyRefused(code) => {
+            warn!(rt; "{}: a NOTIFY from {client} is refused with code {}", note.apex, code.to_int())
+        }
+        TransferNews::SoaRefused => {
+            warn!(rt; "{}: an SOA query from {client} isn't taken: its signature is wrong", note.apex)
         }
     }
 }

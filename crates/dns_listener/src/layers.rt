@@ -6,6 +6,7 @@ ghost use Rattle.dns_listener.specs.Listeners.{GivesBack};
 
 use crate::listener::Listener;
 use crate::place::{Place, serve_at};
+use dns_key_access::{KeyAccess, KeyAccessSvc};
 use dns_middleware::{Notifiable, Settings, wrap};
 use dns_opt::Nsid;
 use dns_own_opt::OwnOptSvc;
@@ -13,6 +14,7 @@ use dns_reply_counts::{CountingSvc, ReplyCounts};
 use dns_reply_options::{NsidSvc, ServerCookieSvc};
 use dns_secondary_service::Withholding;
 use dns_service::{Service, WithoutMeta};
+use dns_signing::{KeyStore, TsigMiddlewareSvc};
 use dns_transfer_notes::{NotingSvc, TransferNotes};
 use dns_udp_size::ClassicUdpSize;
 use dns_workers::HostEnd;
@@ -23,6 +25,12 @@ use std::thread::Threads;
 
 /// How many octets the server takes over UDP if the settings say nothing.
 const UDP_SIZE: u16 = 1_232;
+
+/// How many octets the MAC of a request has at least: those of the shortest whole one (RFC 8945, section 5.2.4).
+const LEAST_MAC: usize = 20;
+
+/// How many seconds the clock of a client may differ from that of a reply (RFC 8945, section 10).
+const FUDGE: u16 = 300;
 
 /// How many octets the server takes over UDP.
 fn udp_size(settings: &Settings) -> u16
@@ -39,6 +47,20 @@ fn udp_size(settings: &Settings) -> u16
 pub struct Tally {
     pub(crate) counts: Arc<ReplyCounts>,
     pub(crate) notes: Arc<TransferNotes>,
+}
+
+/// The keys that requests are verified under, and what wants one.
+#[derive(Drop)]
+pub struct KeyRules {
+    pub keys: KeyStore,
+    pub access: Arc<KeyAccess>,
+}
+
+/// What the outer layers need.
+#[derive(Drop)]
+pub(crate) struct Outside {
+    pub(crate) tally: Tally,
+    pub(crate) rules: KeyRules,
 }
 
 /// Serves with the replies counted.
@@ -91,6 +113,45 @@ where
     serve_noted(rt, alloc, place, tally, ClassicUdpSize::new(service))
 }
 
+/// Serves with requests that are verified and replies that are signed, if they have a TSIG (RFC 8945).
+fn serve_signed<
+    R: Clock + Threads + Wait + Copy + Send + Sync + 'static,
+    S: Service<Option<usize>> + Send + Sync + 'static,
+>(
+    rt: R,
+    alloc: Global,
+    place: Place<R>,
+    tally: Tally,
+    keys: KeyStore,
+    service: S,
+) -> (Listener<R>, HostEnd)
+where
+    S::Future: Send,
+    S::Stream: Send,
+    requires { S.can_call service }
+    ensures { GivesBack place.listener result.0 }
+{
+    let service = TsigMiddlewareSvc::new(service, keys, LEAST_MAC, FUDGE);
+    serve_sized(rt, alloc, place, tally, service)
+}
+
+/// Serves with transfers and NOTIFYs that are refused without the key that they want.
+fn serve_judged<
+    R: Clock + Threads + Wait + Copy + Send + Sync + 'static,
+    S: Service<()> + Send + Sync + 'static,
+>(rt: R, alloc: Global, place: Place<R>, outside: Outside, service: S) -> (Listener<R>, HostEnd)
+where
+    S::Future: Send,
+    S::Stream: Send,
+    requires { S.can_call service }
+    ensures { GivesBack place.listener result.0 }
+{
+    let Outside { tally, rules } = outside;
+    let KeyRules { keys, access } = rules;
+    let service = KeyAccessSvc::new(service, access);
+    serve_signed(rt, alloc, place, tally, keys, service)
+}
+
 /// Serves with OPT records that state the server's own size and the request's DO (RFC 6891, section 6.2.3; RFC 3225, section 3).
 fn serve_stating<
     R: Clock + Threads + Wait + Copy + Send + Sync + 'static,
@@ -99,7 +160,7 @@ fn serve_stating<
     rt: R,
     alloc: Global,
     place: Place<R>,
-    tally: Tally,
+    outside: Outside,
     service: S,
     size: u16,
 ) -> (Listener<R>, HostEnd)
@@ -109,7 +170,7 @@ where
     requires { S.can_call service }
     ensures { GivesBack place.listener result.0 }
 {
-    serve_sized(rt, alloc, place, tally, OwnOptSvc::new(service, size))
+    serve_judged(rt, alloc, place, outside, OwnOptSvc::new(service, size))
 }
 
 /// Serves with the identifier of the server if it is asked for (RFC 5001).
@@ -120,7 +181,7 @@ fn serve_identified<
     rt: R,
     alloc: Global,
     place: Place<R>,
-    tally: Tally,
+    outside: Outside,
     service: S,
     size: u16,
     nsid: Option<Nsid>,
@@ -131,7 +192,7 @@ where
     requires { S.can_call service }
     ensures { GivesBack place.listener result.0 }
 {
-    serve_stating(rt, alloc, place, tally, NsidSvc::new(service, nsid), size)
+    serve_stating(rt, alloc, place, outside, NsidSvc::new(service, nsid), size)
 }
 
 /// Serves with a server cookie in each reply to a request with a client cookie, if there is a secret (RFC 7873, section 5.2).
@@ -142,7 +203,7 @@ fn serve_with_cookies<
     rt: R,
     alloc: Global,
     place: Place<R>,
-    tally: Tally,
+    outside: Outside,
     settings: &Settings,
     nsid: Option<Nsid>,
     service: S,
@@ -154,7 +215,7 @@ where
     ensures { GivesBack place.listener result.0 }
 {
     let service = ServerCookieSvc::new(service, settings.cookies);
-    serve_identified(rt, alloc, place, tally, service, udp_size(settings), nsid)
+    serve_identified(rt, alloc, place, outside, service, udp_size(settings), nsid)
 }
 
 /// Serves by a service in the layers of the settings, and the target of NOTIFY.
@@ -166,7 +227,7 @@ fn serve_wrapped<
     rt: R,
     alloc: Global,
     place: Place<R>,
-    tally: Tally,
+    outside: Outside,
     settings: &Settings,
     nsid: Option<Nsid>,
     service: S,
@@ -180,7 +241,7 @@ where
     ensures { GivesBack place.listener result.0 }
 {
     match wrap(alloc, settings, service, target) {
-        Ok(wrapped) => serve_with_cookies(rt, alloc, place, tally, settings, nsid, wrapped),
+        Ok(wrapped) => serve_with_cookies(rt, alloc, place, outside, settings, nsid, wrapped),
         Err(_) => place.give_up(rt),
     }
 }
@@ -194,7 +255,7 @@ pub(crate) fn serve_zones<
     rt: R,
     alloc: Global,
     place: Place<R>,
-    tally: Tally,
+    outside: Outside,
     settings: &Settings,
     nsid: Option<Nsid>,
     service: Arc<Withholding<S>>,
@@ -207,5 +268,5 @@ where
     requires { ⟦<Withholding<S> as Service<()>>⟧.can_call (arc_value service) }
     ensures { GivesBack place.listener result.0 }
 {
-    serve_wrapped(rt, alloc, place, tally, settings, nsid, service, target)
+    serve_wrapped(rt, alloc, place, outside, settings, nsid, service, target)
 }

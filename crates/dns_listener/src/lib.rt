@@ -2,7 +2,8 @@
 //!
 //! - `Listener` has the sockets of an address: one for connections, and one for datagrams for each worker. `bind_all` opens
 //!   those of a configuration, and `say_listeners` writes their addresses.
-//! - `Offer` is what is served: the zones, by settings, with the target of NOTIFY and the identifier of the server.
+//! - `Offer` is what is served: the zones, by settings, with the target of NOTIFY and the identifier of the server. `KeyRules`
+//!   are its keys and what wants one.
 //! - `Running` is a listener that serves an offer in a thread. `start` gives the listener back if it can't be started.
 //!   `has_ended` says whether one has ended by itself, and `close_all` shuts them down. `take_back` gives the listeners back,
 //!   whose sockets stay open for what is served next.
@@ -13,8 +14,10 @@
 //! bind_all -> Running::start for each -> close_all -> take_back -> Running::start ..
 //! ```
 //!
-//! The layers stand so, from outside: counts; notes of transfers; at most 512 octets over UDP without EDNS; the server's own OPT
-//! record; its identifier; server cookies; the four layers of dns_middleware; zones without data, twice; the authority.
+//! The layers stand so, from outside: counts; notes of transfers; at most 512 octets over UDP without EDNS; TSIG (RFC 8945); the
+//! keys that transfers and NOTIFYs want; the server's own OPT record; its identifier; server cookies; the four layers of
+//! dns_middleware; zones without data, twice; the authority. Those outside of TSIG leave replies as they are, so that a TSIG
+//! ends each reply.
 //!
 //! # What is proved
 //!
@@ -40,7 +43,7 @@ mod running;
 
 pub use closing::{close_all, has_ended, take_back};
 pub use counts::{Counters, Numbers, ReplyNumbers};
-pub use layers::Tally;
+pub use layers::{KeyRules, Tally};
 pub use listener::{Listener, bind_all, say_listeners};
 pub use offer::{Offer, ZoneService};
 pub use running::{Running, Started};

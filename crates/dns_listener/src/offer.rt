@@ -3,7 +3,7 @@
 ghost use Rattle.std.specs.Prelude.{◌≡◌, IfOk};
 ghost use Rattle.std.specs.Arc.{arc_value};
 
-use crate::layers::Tally;
+use crate::layers::{KeyRules, Tally};
 use dns_authority::Authority;
 use dns_config::Identifier;
 use dns_middleware::{Notifiable, Settings};
@@ -17,7 +17,8 @@ use std::sync::Arc;
 /// that lost their data since.
 pub type ZoneService = Withholding<Arc<Withholding<Authority>>>;
 
-/// What is served: the zones, by settings, with the target of NOTIFY, the identifier of the server, and what counts the replies.
+/// What is served: the zones, by settings, with the target of NOTIFY, the identifier of the server, what counts the replies, and
+/// the keys.
 #[derive(Drop)]
 pub struct Offer<N> {
     pub(crate) settings: Settings,
@@ -25,6 +26,7 @@ pub struct Offer<N> {
     pub(crate) target: Arc<N>,
     pub(crate) nsid: Option<Nsid>,
     pub(crate) tally: Tally,
+    pub(crate) rules: KeyRules,
 }
 
 /// The identifier that a configuration says.
@@ -39,7 +41,7 @@ fn nsid_of(alloc: Global, identifier: &Option<Identifier>) -> Result<Option<Nsid
 }
 
 impl<N: Notifiable> Offer<N> {
-    /// An offer of these, which are shared.
+    /// An offer of these, which are shared, and of these keys.
     pub fn new(
         alloc: Global,
         settings: &Settings,
@@ -47,10 +49,12 @@ impl<N: Notifiable> Offer<N> {
         target: &Arc<N>,
         identifier: &Option<Identifier>,
         tally: Tally,
+        rules: KeyRules,
     ) -> Result<Offer<N>, OutOfMemory>
         ensures settings { IfOk result (λ o. o.settings ≡ settings.now) }
         ensures service { IfOk result (λ o. arc_value o.service ≡ arc_value service.now) }
         ensures target { IfOk result (λ o. arc_value o.target ≡ arc_value target.now) }
+        ensures rules { IfOk result (λ o. o.rules ≡ rules) }
     {
         let service = Arc::try_clone(service)?;
         let target = Arc::try_clone(target)?;
@@ -62,6 +66,7 @@ impl<N: Notifiable> Offer<N> {
             target,
             nsid,
             tally,
+            rules,
         })
     }
 }

@@ -5,7 +5,7 @@ ghost use Rattle.std.specs.Arc.{arc_value};
 ghost use Rattle.dns_book.specs.Causes.{HasShutdown};
 ghost use Rattle.dns_listener.specs.Listeners.{GivesBack};
 
-use crate::layers::serve_zones;
+use crate::layers::{Outside, serve_zones};
 use crate::listener::Listener;
 use crate::offer::Offer;
 use crate::place::Place;
@@ -70,8 +70,10 @@ where
             target,
             nsid,
             tally,
+            rules,
         } = offer;
-        serve_zones(rt, alloc, place, tally, &settings, nsid, service, target)
+        let outside = Outside { tally, rules };
+        serve_zones(rt, alloc, place, outside, &settings, nsid, service, target)
     }
 }
 

@@ -2,15 +2,18 @@
 
 ghost use Rattle.std.specs.Prelude.{◌≤◌, length};
 
+use crate::signing::Signing;
 use anyhow::bail;
 use dns_forward::{Asking, Ticked};
 use dns_name::{Name, OutOfMemory, SocketAddr};
+use dns_peer_keys::{Key, SignedReplyError};
 use dns_secondary::zone_notify;
 use dns_socket_addr::{SocketAddrText, to_std, unspecified_like};
 use log::{Log, error};
 use std::alloc::Global;
 use std::net::{Net, UdpSocket};
 use std::random::RandomSource;
+use std::sync::Arc;
 
 /// How often a NOTIFY is sent, and how long an answer is waited for each time: sooner and no more often than RFC 1996, section 3.6,
 /// has as defaults.
@@ -29,15 +32,26 @@ pub(crate) struct PendingNotify {
     /// None if none could be opened yet.
     socket: Option<UdpSocket>,
     asking: Asking,
+    /// If a key is shared with the address.
+    signing: Option<Signing>,
+}
+
+/// A moment by two clocks: milliseconds since any moment, and seconds since 1970.
+#[derive(Clone, Copy)]
+pub(crate) struct Moment {
+    pub(crate) millis: u64,
+    pub(crate) secs: u64,
 }
 
 /// How far a NOTIFY is.
-#[derive(Clone, Copy, PartialEq, Eq)]
+#[derive(Clone, Copy)]
 pub(crate) enum NotifyState {
     /// An answer is waited for.
     Waiting,
     /// It was answered, with this response code.
     Answered(u8),
+    /// An answer came that isn't taken. Another one is waited for.
+    NotTaken(SignedReplyError),
     /// It was given up.
     GaveUp,
 }
@@ -81,24 +95,34 @@ fn asking_of(alloc: Global, apex: &Name, id: u16, now: u64) -> anyhow::Result<As
     }
 }
 
+/// What is signed under a key, if there is one.
+fn signing_under(key: Option<Arc<Key>>) -> Option<Signing> {
+    match key {
+        Some(key) => Some(Signing::new(key)),
+        None => None,
+    }
+}
+
 impl PendingNotify {
-    /// Sends an address the NOTIFY of a zone.
+    /// Sends an address the NOTIFY of a zone, under a key if one is shared with it.
     pub(crate) fn begin<R: Net + RandomSource + Log>(
         rt: &R,
         alloc: Global,
         apex: Name,
         to: SocketAddr,
-        now: u64,
+        key: Option<Arc<Key>>,
+        now: Moment,
     ) -> anyhow::Result<PendingNotify> {
         let id = identifier(rt)?;
-        let asking = asking_of(alloc, &apex, id, now)?;
+        let asking = asking_of(alloc, &apex, id, now.millis)?;
         let mut notify = PendingNotify {
             apex,
             to,
             socket: None,
             asking,
+            signing: signing_under(key),
         };
-        notify.send(rt);
+        notify.send(rt, alloc, now.secs)?;
         Ok(notify)
     }
 
@@ -115,11 +139,34 @@ impl PendingNotify {
         }
     }
 
+    /// The octets that are sent, signed if there is a key.
+    fn octets(&mut self, alloc: Global, secs: u64) -> Result<Option<Vec<u8>>, OutOfMemory> {
+        match &mut self.signing {
+            Some(signing) => signing.sign(alloc, secs, self.asking.octets()),
+            None => Ok(Some(Vec::from_slice(alloc, self.asking.octets())?)),
+        }
+    }
+
     /// Sends it. One that can't be sent is as one that was lost.
-    fn send<R: Net + Log>(&mut self, rt: &R) {
+    fn send<R: Net + Log>(&mut self, rt: &R, alloc: Global, secs: u64) -> Result<(), OutOfMemory> {
         self.open_socket(rt);
-        if let Some(socket) = &self.socket {
-            let _ = socket.send(self.asking.octets());
+        let octets = self.octets(alloc, secs)?;
+        if let (Some(socket), Some(octets)) = (&self.socket, &octets) {
+            let _ = socket.send(octets.as_slice());
+        }
+        Ok(())
+    }
+
+    /// The octets of an answer as it is taken: if there is a key, those of one that verifies, without its TSIG.
+    fn taken(
+        &mut self,
+        alloc: Global,
+        secs: u64,
+        octets: &[u8],
+    ) -> Result<Option<Vec<u8>>, OutOfMemory> {
+        match &mut self.signing {
+            Some(signing) => signing.verified(alloc, secs, octets),
+            None => Ok(Some(Vec::from_slice(alloc, octets)?)),
         }
     }
 
@@ -127,20 +174,31 @@ impl PendingNotify {
     fn code_of(
         &mut self,
         alloc: Global,
-        now: u64,
+        now: Moment,
         octets: &[u8],
     ) -> Result<Option<u8>, OutOfMemory> {
-        match self.asking.arrived(alloc, now, octets)? {
+        let Some(octets) = self.taken(alloc, now.secs, octets)? else {
+            return Ok(None);
+        };
+        match self.asking.arrived(alloc, now.millis, octets.as_slice())? {
             Some(answer) => Ok(Some(answer.header().rcode.to_int())),
             None => Ok(None),
         }
     }
 
     /// Looks whether it was answered.
-    fn hear(&mut self, alloc: Global, now: u64) -> Result<Option<u8>, OutOfMemory> {
+    fn hear(&mut self, alloc: Global, now: Moment) -> Result<Option<u8>, OutOfMemory> {
         let mut buffer = [0u8; ANSWER_SIZE];
         let count = received(&self.socket, &mut buffer);
         self.code_of(alloc, now, &buffer[..count])
+    }
+
+    /// Why an answer that came wasn't taken, if one came since this was asked last.
+    fn take_fault(&mut self) -> Option<SignedReplyError> {
+        match &mut self.signing {
+            Some(signing) => signing.take_fault(),
+            None => None,
+        }
     }
 
     /// Looks whether it was answered, and sends it again if that is due.
@@ -148,15 +206,18 @@ impl PendingNotify {
         &mut self,
         rt: &R,
         alloc: Global,
-        now: u64,
+        now: Moment,
     ) -> Result<NotifyState, OutOfMemory> {
         if let Some(code) = self.hear(alloc, now)? {
             return Ok(NotifyState::Answered(code));
         }
-        match self.asking.tick(now) {
+        if let Some(fault) = self.take_fault() {
+            return Ok(NotifyState::NotTaken(fault));
+        }
+        match self.asking.tick(now.millis) {
             Ticked::Nothing => Ok(NotifyState::Waiting),
             Ticked::Send => {
-                self.send(rt);
+                self.send(rt, alloc, now.secs)?;
                 Ok(NotifyState::Waiting)
             }
             Ticked::GaveUp => Ok(NotifyState::GaveUp),

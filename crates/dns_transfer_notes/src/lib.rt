@@ -1,7 +1,9 @@
-//! What becomes of questions for transfers, as it is noted for a log.
+//! What becomes of questions for transfers and of NOTIFYs, as it is noted for a log.
 //!
 //! - `NotingSvc` is a layer round a service. It changes nothing. Of each request over a stream that asks for a transfer it
 //!   notes whether that begins and that it is refused. Of a transfer it notes its end, and whether it was broken off.
+//! - Of a NOTIFY it notes that it is refused. Of a query for the SOA record it notes that it is NOTAUTH, since its signature
+//!   isn't taken.
 //! - `TransferNotes` are the notes, which threads share. `next` takes one out. `begun` and `refused` count them.
 //! - `TransferNote` is a note: the zone, the client and what happened.
 //!
@@ -10,8 +12,9 @@
 //!                                                                            -> the connection ends before: BrokenOff
 //! ```
 //!
-//! It stands round `wrap` of dns_middleware, or round a layer that stands round it. A datagram is never transferred, and
-//! its sender hasn't shown its address, so no note is made of one.
+//! It stands round `wrap` of dns_middleware, or round a layer that stands round it. A datagram is never transferred, so no
+//! note is made of its question for a transfer. The sender of a datagram hasn't shown its address. So the note of a NOTIFY or
+//! of a query for the SOA record is made only if no other waits.
 //!
 //! # What is proved
 //!

@@ -10,7 +10,7 @@ use std::sync::atomic::{AtomicU64, Ordering};
 /// How many notes wait at most.
 const MOST_WAITING: usize = 256;
 
-/// What became of a question for a transfer.
+/// What became of a question for a transfer, of a NOTIFY or of a query for the SOA record.
 #[derive(Clone, Copy)]
 pub enum TransferNews {
     /// The first reply is one of a transfer.
@@ -21,9 +21,23 @@ pub enum TransferNews {
     BrokenOff,
     /// The first reply has another response code than NOERROR.
     Refused(Rcode),
+    /// The reply to a NOTIFY has another response code than NOERROR.
+    NotifyRefused(Rcode),
+    /// The reply to a query for the SOA record is NOTAUTH: its signature isn't taken.
+    SoaRefused,
 }
 
-/// What became of a question for a transfer, and who asked it.
+impl TransferNews {
+    /// Whether a datagram may lead to it.
+    fn is_of_datagram(self) -> bool {
+        matches!(
+            self,
+            TransferNews::NotifyRefused(_) | TransferNews::SoaRefused
+        )
+    }
+}
+
+/// What became of a question for a transfer, of a NOTIFY or of a query for the SOA record, and who asked it.
 #[derive(Drop)]
 pub struct TransferNote {
     pub apex: Name,
@@ -56,12 +70,17 @@ impl TransferNotes {
             TransferNews::Begun => self.begun.fetch_add(1, Ordering::SeqCst),
             TransferNews::Refused(_) => self.refused.fetch_add(1, Ordering::SeqCst),
             TransferNews::Ended | TransferNews::BrokenOff => 0,
+            TransferNews::NotifyRefused(_) | TransferNews::SoaRefused => 0,
         };
     }
 
-    /// Puts a note after the others, and counts it.
+    /// Puts a note after the others, and counts it. One that a datagram may lead to is put if no other waits, since whoever sends
+    /// a datagram need not have shown its address.
     pub(crate) fn put<R: Wait>(&self, rt: &R, note: TransferNote) {
         self.count(note.news);
+        if note.news.is_of_datagram() && self.waiting.len(rt) != 0 {
+            return;
+        }
         let _ = self.waiting.push(rt, note);
     }
 

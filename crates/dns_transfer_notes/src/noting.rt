@@ -3,7 +3,7 @@
 ghost use Rattle.std.specs.Prelude.{◌≡◌};
 
 use crate::notes::{TransferNews, TransferNote, TransferNotes};
-use dns_base::Rcode;
+use dns_base::{Opcode, Rcode};
 use dns_name::{Name, SocketAddr};
 use dns_service::{OutOfMemory, Polled, ReplyFuture, ReplyStream, Request, Service, ServiceResult};
 use std::alloc::Global;
@@ -15,7 +15,10 @@ const AXFR: u16 = 252;
 /// The type of a question that asks for what has changed in a zone (RFC 1995, section 2).
 const IXFR: u16 = 251;
 
-/// A service whose transfers are noted.
+/// The type of SOA records (RFC 1035, section 3.2.2).
+const SOA: u16 = 6;
+
+/// A service whose transfers are noted, and NOTIFYs and queries for SOA records that are refused.
 #[derive(Drop)]
 pub struct NotingSvc<R, S> {
     rt: R,
@@ -32,9 +35,21 @@ impl<R, S> NotingSvc<R, S> {
     }
 }
 
-/// A question for a transfer, and what of it was noted.
+/// What is noted of a request.
+#[derive(Clone, Copy)]
+enum Subject {
+    /// A question for a transfer over a stream.
+    Transfer,
+    /// A NOTIFY.
+    Notify,
+    /// A query for the SOA record, by which a secondary checks its copy.
+    Soa,
+}
+
+/// A question that is noted, and what of it was.
 #[derive(Drop)]
 struct Asked {
+    subject: Subject,
     apex: Name,
     client: SocketAddr,
     notes: Arc<TransferNotes>,
@@ -54,28 +69,45 @@ fn asks_transfer(qtype: u16) -> bool {
     qtype == AXFR || qtype == IXFR
 }
 
-/// The zone of which a request asks for a transfer over a stream.
-fn asked_zone<Meta>(alloc: Global, request: &Request<Meta>) -> Result<Option<Name>, OutOfMemory> {
-    if !request.transport_ctx().is_non_udp() {
-        return Ok(None);
+/// What is noted of a request with a question of this type, if something is.
+fn subject_of<Meta>(request: &Request<Meta>, qtype: u16) -> Option<Subject> {
+    let opcode = request.message().header().opcode;
+    if opcode == Opcode::NOTIFY {
+        return Some(Subject::Notify);
     }
-    match request.message().first_question() {
-        Some(question) if asks_transfer(question.qtype().to_int()) => {
-            Ok(Some(question.qname().to_name(alloc)?))
-        }
-        _ => Ok(None),
+    if request.transport_ctx().is_non_udp() && asks_transfer(qtype) {
+        return Some(Subject::Transfer);
+    }
+    if opcode == Opcode::QUERY && qtype == SOA {
+        return Some(Subject::Soa);
+    }
+    None
+}
+
+/// What is noted of a request, and the zone that it names.
+fn asked_zone<Meta>(
+    alloc: Global,
+    request: &Request<Meta>,
+) -> Result<Option<(Subject, Name)>, OutOfMemory> {
+    let Some(question) = request.message().first_question() else {
+        return Ok(None);
+    };
+    match subject_of(request, question.qtype().to_int()) {
+        Some(subject) => Ok(Some((subject, question.qname().to_name(alloc)?))),
+        None => Ok(None),
     }
 }
 
 impl Asked {
-    /// The question of a request, if it asks for a transfer.
+    /// The question of a request, if something is noted of it.
     fn of<Meta>(
         alloc: Global,
         request: &Request<Meta>,
         notes: &Arc<TransferNotes>,
     ) -> Result<Option<Asked>, OutOfMemory> {
         match asked_zone(alloc, request)? {
-            Some(apex) => Ok(Some(Asked {
+            Some((subject, apex)) => Ok(Some(Asked {
+                subject,
                 apex,
                 client: request.client_addr(),
                 notes: Arc::try_clone(notes)?,
@@ -93,14 +125,39 @@ impl Asked {
         }
     }
 
-    /// Notes the first reply.
-    fn hear_first<R: Wait>(&mut self, rt: &R, alloc: Global, code: Rcode) {
+    /// Notes the first reply to a question for a transfer.
+    fn hear_transfer<R: Wait>(&mut self, rt: &R, alloc: Global, code: Rcode) {
         if code == Rcode::NOERROR {
             self.state = State::Begun;
             self.note(rt, alloc, TransferNews::Begun);
         } else {
             self.state = State::Over;
             self.note(rt, alloc, TransferNews::Refused(code));
+        }
+    }
+
+    /// Notes the reply to a NOTIFY, if that is refused.
+    fn hear_notify<R: Wait>(&mut self, rt: &R, alloc: Global, code: Rcode) {
+        self.state = State::Over;
+        if code != Rcode::NOERROR {
+            self.note(rt, alloc, TransferNews::NotifyRefused(code));
+        }
+    }
+
+    /// Notes the reply to a query for the SOA record, if that is NOTAUTH.
+    fn hear_soa<R: Wait>(&mut self, rt: &R, alloc: Global, code: Rcode) {
+        self.state = State::Over;
+        if code == Rcode::NOTAUTH {
+            self.note(rt, alloc, TransferNews::SoaRefused);
+        }
+    }
+
+    /// Notes the first reply.
+    fn hear_first<R: Wait>(&mut self, rt: &R, alloc: Global, code: Rcode) {
+        match self.subject {
+            Subject::Transfer => self.hear_transfer(rt, alloc, code),
+            Subject::Notify => self.hear_notify(rt, alloc, code),
+            Subject::Soa => self.hear_soa(rt, alloc, code),
         }
     }
 
@@ -119,6 +176,7 @@ impl Asked {
     /// Notes the end, if a transfer began.
     fn end<R: Wait>(self, rt: &R, news: TransferNews) {
         let Asked {
+            subject: _,
             apex,
             client,
             notes,

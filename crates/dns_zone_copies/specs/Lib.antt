@@ -3,3 +3,4 @@ pub mod Looking
 pub mod Reporting
 pub mod Secondaries
 pub mod Targets
+pub mod Replies

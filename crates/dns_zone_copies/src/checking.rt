@@ -3,6 +3,7 @@
 use crate::check::{Check, Checked, run};
 use anyhow::bail;
 use std::alloc::Global;
+use std::rt::Clock;
 use std::sync::Arc;
 use std::sync::atomic::{AtomicBool, Ordering};
 use std::thread::{self, JoinHandle, Threads};
@@ -30,7 +31,7 @@ fn shareable(alloc: Global, checking: Checking) -> anyhow::Result<Arc<Checking>>
 
 impl Checking {
     /// Starts a check that is given up at a moment.
-    pub(crate) fn start<R: Threads>(
+    pub(crate) fn start<R: Threads + Clock + Copy + Send + 'static>(
         rt: &R,
         alloc: Global,
         check: Check,
@@ -39,8 +40,9 @@ impl Checking {
         let ended = Arc::new(alloc, AtomicBool::new(false))?;
         let theirs = Arc::try_clone(&ended)?;
         let stop = Arc::try_clone(&check.stop)?;
+        let clock = *rt;
         let thread = thread::spawn(rt, move || {
-            let checked = run(alloc, check);
+            let checked = run(&clock, alloc, check);
             theirs.store(true, Ordering::SeqCst);
             checked
         })?;

@@ -1,13 +1,13 @@
 //! The copies of all zones that a server is secondary of.
 
-ghost use Rattle.std.specs.Prelude.{◌≡◌, ◌≤◌, ◌<◌, ◌++◌, [], IfOk, IfSome, OnErr, OnOk, length, map, string_bytes};
+ghost use Rattle.std.specs.Prelude.{◌≡◌, ◌≤◌, ◌<◌, ◌++◌, [], IfOk, IfSome, OnErr, OnOk, Some, length, map, option_map, string_bytes};
 ghost use Rattle.std.specs.Arc.{arc_value};
 ghost use Rattle.std.specs.List.{AllZip, list_any};
 ghost use Rattle.std.specs.Option.{option_to_list};
 ghost use Rattle.dns_zone_copies.specs.Following.{Follows, HasSecondary};
 ghost use Rattle.dns_zone_copies.specs.Looking.{Looks, LooksAtAll, MayBegin, has_obsolete_copy, without_obsolete_copy};
 ghost use Rattle.dns_zone_copies.specs.Reporting.{Reports};
-ghost use Rattle.dns_zone_copies.specs.Secondaries.{continued};
+ghost use Rattle.dns_zone_copies.specs.Secondaries.{continued, key_shared};
 ghost use Rattle.dns_zone_copies.specs.Targets.{watched_zones};
 
 use crate::before::Before;
@@ -15,9 +15,11 @@ use crate::checking::Checking;
 use crate::copy_file;
 use crate::secondary::Secondary;
 use crate::target::CopiesTarget;
-use dns_config::{Config, ZoneEntry};
+use anyhow::bail;
+use dns_config::{Config, KeyName, ZoneEntry};
 use dns_generation::ZoneSummary;
 use dns_name::{OutOfMemory, SocketAddr};
+use dns_peer_keys::{Key, PeerKeys};
 use dns_secondary::SoaTimers;
 use log::Log;
 use std::alloc::{AllocError, Global};
@@ -41,6 +43,19 @@ pub struct Copies {
     next: usize,
 }
 
+/// The key of a name, if one is named.
+fn key_of(keys: &PeerKeys, named: &Option<KeyName>) -> anyhow::Result<Option<Arc<Key>>>
+    ensures { IfOk result (λ key. key_shared keys.now named.now ≡ Some (option_map arc_value key)) }
+{
+    match named {
+        Some(named) => match keys.get(&named.name) {
+            Some((_, key)) => Ok(Some(Arc::try_clone(key)?)),
+            None => bail!("no key has the name {}", named.name),
+        },
+        None => Ok(None),
+    }
+}
+
 /// The secondary of an entry with a primary: the one that was there before, if it was, and else a new one. What is served was
 /// current at a moment.
 fn continued(
@@ -48,18 +63,20 @@ fn continued(
     before: Option<Secondary>,
     entry: &ZoneEntry,
     primary: SocketAddr,
+    key: Option<Arc<Key>>,
     served: Option<SoaTimers>,
     current: u64,
     now: u64,
 ) -> Result<Secondary, OutOfMemory>
-    ensures { IfOk result (λ s. s ≡ continued before entry.now.name.name primary (string_bytes entry.now.file) served current now) }
+    ensures { IfOk result (λ s. s ≡ continued before entry.now.name.name primary (option_map arc_value key)
+        (string_bytes entry.now.file) served current now) }
 {
     match before {
         Some(mut secondary) => {
-            secondary.follow(alloc, entry, served, current, now)?;
+            secondary.follow(alloc, entry, key, served, current, now)?;
             Ok(secondary)
         }
-        None => Secondary::new(alloc, entry, primary, served, current),
+        None => Secondary::new(alloc, entry, primary, key, served, current),
     }
 }
 
@@ -69,19 +86,30 @@ fn secondary_of<R: Files + Clock>(
     alloc: Global,
     before: &mut Before<'_>,
     entry: &ZoneEntry,
-    summary: &ZoneSummary,
+    keys: &PeerKeys,
+    served: Option<SoaTimers>,
     now: u64,
-) -> Result<Option<Secondary>, OutOfMemory>
-    ensures secondary { IfOk result (HasSecondary before.old.zones.now entry.now entry.now.primary summary.now.timers now) }
+) -> anyhow::Result<Option<Secondary>>
+    ensures secondary { IfOk result (HasSecondary before.old.zones.now keys.now entry.now entry.now.primary served now) }
     ensures before { before.new.zones.now ≡ before.old.zones.now }
 {
-    let primary = match entry.primary {
-        Some(endpoint) => endpoint.address,
+    let primary = match &entry.primary {
+        Some(primary) => primary,
         None => return Ok(None),
     };
+    let key = key_of(keys, &primary.key)?;
     let found = before.known_of(alloc, entry)?;
     let current = copy_file::current(rt, entry.file.as_str(), now);
-    let secondary = continued(alloc, found, entry, primary, summary.timers, current, now)?;
+    let secondary = continued(
+        alloc,
+        found,
+        entry,
+        primary.address,
+        key,
+        served,
+        current,
+        now,
+    )?;
     Ok(Some(secondary))
 }
 
@@ -95,16 +123,17 @@ fn put(secondaries: &mut Vec<Secondary>, secondary: Option<Secondary>) -> Result
     Ok(())
 }
 
-/// The secondaries of a configuration's zones with these summaries. Those that were there before go on.
+/// The secondaries of a configuration's zones with these keys and summaries. Those that were there before go on.
 fn follow_all<R: Files + Clock>(
     rt: &R,
     alloc: Global,
     zones: &[Secondary],
     config: &Config,
+    keys: &PeerKeys,
     summaries: &[ZoneSummary],
     now: u64,
-) -> Result<Vec<Secondary>, OutOfMemory>
-    ensures { IfOk result (λ after. Follows zones.now config.now.zone.items summaries.now now after.items) }
+) -> anyhow::Result<Vec<Secondary>>
+    ensures { IfOk result (λ after. Follows zones.now keys.now config.now.zone.items summaries.now now after.items) }
 {
     let mut secondaries = Vec::new(alloc);
     let mut before = Before::new(zones);
@@ -114,7 +143,8 @@ fn follow_all<R: Files + Clock>(
             Some(both) => both,
             None => return Ok(secondaries),
         };
-        let secondary = secondary_of(rt, alloc, &mut before, entry, summary, now)?;
+        let served = summary.timers;
+        let secondary = secondary_of(rt, alloc, &mut before, entry, keys, served, now)?;
         put(&mut secondaries, secondary)?;
         left = later;
     }
@@ -161,7 +191,7 @@ fn discard_all<R: Log>(rt: &R, secondaries: &mut [Secondary], now: u64) -> bool
 
 /// Begins checks that are due, in order, while there is room for them: how many secondaries were looked at, and how much room is
 /// left.
-fn begin_checks<R: Net + Log + Threads>(
+fn begin_checks<R: Net + Log + Threads + Clock + Copy + Send + 'static>(
     rt: &R,
     alloc: Global,
     secondaries: &mut [Secondary],
@@ -185,7 +215,7 @@ fn begin_checks<R: Net + Log + Threads>(
 }
 
 /// Begins checks that are due, from a place on and then from the first, while there is room for them. The place of the next one.
-fn begin_from<R: Net + Log + Threads>(
+fn begin_from<R: Net + Log + Threads + Clock + Copy + Send + 'static>(
     rt: &R,
     alloc: Global,
     secondaries: &mut [Secondary],
@@ -258,25 +288,26 @@ impl Copies {
         &self.target
     }
 
-    /// Goes on to the zones of a configuration with these summaries. A zone that was there before with its primary keeps its check,
-    /// and what is known of its copy if that is served. Where memory runs out all stays.
+    /// Goes on to the zones of a configuration with these keys and summaries. A zone that was there before with its primary keeps its
+    /// check, and what is known of its copy if that is served. If a key isn't known, or memory runs out, all stays.
     pub fn follow<R: Files + Clock>(
         &mut self,
         rt: &R,
         alloc: Global,
         config: &Config,
+        keys: &PeerKeys,
         summaries: &[ZoneSummary],
         now: u64,
-    ) -> Result<(), OutOfMemory>
+    ) -> anyhow::Result<()>
         ensures target { OnOk result ((arc_value self.new.target).zones.items ≡ watched_zones self.new.secondaries.items) }
-        ensures copies { OnOk result (Follows self.old.secondaries.items config.now.zone.items summaries.now now
+        ensures copies { OnOk result (Follows self.old.secondaries.items keys.now config.now.zone.items summaries.now now
             self.new.secondaries.items) }
         ensures kept { OnErr result (self.new.secondaries.items ≡ self.old.secondaries.items) }
         ensures watched { OnErr result (self.new.target ≡ self.old.target) }
     {
         let zones = self.secondaries.as_slice();
         let checks = count_checks(zones);
-        let secondaries = follow_all(rt, alloc, zones, config, summaries, now)?;
+        let secondaries = follow_all(rt, alloc, zones, config, keys, summaries, now)?;
         let target = target_of(alloc, secondaries.as_slice())?;
         self.leaving.reserve(checks)?;
         self.target = target;
@@ -313,7 +344,12 @@ impl Copies {
     }
 
     /// Begins the checks that are due, from the next one on.
-    fn begin_next<R: Net + Log + Threads>(&mut self, rt: &R, alloc: Global, now: u64)
+    fn begin_next<R: Net + Log + Threads + Clock + Copy + Send + 'static>(
+        &mut self,
+        rt: &R,
+        alloc: Global,
+        now: u64,
+    )
         ensures begun { AllZip (MayBegin now) self.old.secondaries.items self.new.secondaries.items }
         ensures target { self.new.target ≡ self.old.target }
     {
@@ -324,7 +360,7 @@ impl Copies {
 
     /// Looks at each copy, and begins the checks that are due, as many as may go on at once. Whether another copy, or none, is
     /// served from now on.
-    pub fn look<R: Net + Files + Clock + Log + Threads>(
+    pub fn look<R: Net + Files + Clock + Log + Threads + Copy + Send + 'static>(
         &mut self,
         rt: &R,
         alloc: Global,

@@ -4,10 +4,12 @@ use anyhow::bail;
 use dns_base::AdditionalBuilder;
 use dns_message::Message;
 use dns_name::SocketAddr;
+use dns_peer_keys::{Key, Mac, SignedRequest, sign_request};
 use dns_socket_addr::to_std;
 use std::alloc::Global;
 use std::io::{Read, Write};
 use std::net::{Net, TcpStream};
+use std::rt::Clock;
 use std::sync::atomic::{AtomicBool, Ordering};
 use std::time::Duration;
 
@@ -24,11 +26,46 @@ pub(crate) fn connect<N: Net>(net: &N, primary: SocketAddr) -> anyhow::Result<Tc
     Ok(stream)
 }
 
+/// The seconds since 1970.
+pub(crate) fn seconds<R: Clock>(rt: &R) -> anyhow::Result<u64> {
+    Ok(rt.since_1970()?.as_secs())
+}
+
 /// Sends a message.
 pub(crate) fn send<S: Write>(stream: &mut S, message: AdditionalBuilder) -> anyhow::Result<()> {
     let target = message.finish();
     stream.write_all(target.as_stream_slice())?;
     Ok(())
+}
+
+/// Sends octets after their number, in one write (RFC 7766, section 8).
+fn send_octets<S: Write>(alloc: Global, stream: &mut S, octets: &[u8]) -> anyhow::Result<()> {
+    let Ok(count) = u16::try_from(octets.len()) else {
+        bail!("a message is too long");
+    };
+    let mut framed = Vec::new(alloc);
+    framed.extend_from_slice(&count.to_be_bytes())?;
+    framed.extend_from_slice(octets)?;
+    stream.write_all(framed.as_slice())?;
+    Ok(())
+}
+
+/// Sends a message that is signed under a key, and gives its MAC.
+pub(crate) fn send_signed<R: Clock, S: Write>(
+    rt: &R,
+    alloc: Global,
+    stream: &mut S,
+    key: &Key,
+    message: AdditionalBuilder,
+) -> anyhow::Result<Mac> {
+    let secs = seconds(rt)?;
+    match sign_request(alloc, key, secs, &message.into_message())? {
+        Some(SignedRequest { octets, mac }) => {
+            send_octets(alloc, stream, octets.as_slice())?;
+            Ok(mac)
+        }
+        None => bail!("no TSIG has room"),
+    }
 }
 
 /// Fills a buffer, unless that is to be given up.

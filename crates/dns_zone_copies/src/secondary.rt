@@ -1,6 +1,7 @@
 //! Zones that the server is secondary of.
 
-ghost use Rattle.std.specs.Prelude.{◌≡◌, ◌&&◌, true, IfOk, OnErr, OnOk, is_none, is_some, string_bytes};
+ghost use Rattle.std.specs.Prelude.{◌≡◌, ◌&&◌, true, IfOk, OnErr, OnOk, is_none, is_some, option_map, string_bytes};
+ghost use Rattle.std.specs.Arc.{arc_value};
 ghost use Rattle.std.specs.Bool.{OnFalse, OnTrue};
 ghost use Rattle.std.specs.Str.{bytes_eq};
 ghost use Rattle.dns_name.specs.Canonical.{same_name};
@@ -15,6 +16,7 @@ use crate::copy_file;
 use crate::primary::connect;
 use dns_config::ZoneEntry;
 use dns_name::{Name, OutOfMemory, SocketAddr};
+use dns_peer_keys::Key;
 use dns_secondary::{SoaTimers, WatchedZone, ZoneCopy};
 use dns_socket_addr::{SocketAddrText, same_socket_addr};
 use log::{Log, error, info, warn};
@@ -37,6 +39,8 @@ const LONGEST_CHECK: u64 = 600;
 pub struct Secondary {
     apex: Name,
     primary: SocketAddr,
+    /// The key that is shared with the primary.
+    key: Option<Arc<Key>>,
     file: String,
     copy: ZoneCopy,
     /// Set by each NOTIFY of the zone, until it is looked at.
@@ -46,7 +50,8 @@ pub struct Secondary {
 }
 
 impl Model for Secondary {
-    ghost use Rattle.std.specs.Prelude.{string_bytes};
+    ghost use Rattle.std.specs.Prelude.{option_map, string_bytes};
+    ghost use Rattle.std.specs.Arc.{arc_value};
     ghost use Rattle.dns_zone_copies.specs.Secondaries.{SecondaryState};
 
     ghost Value = { SecondaryState };
@@ -54,6 +59,7 @@ impl Model for Secondary {
     ghost view = { λ s. record {
       apex = s.apex;
       primary = s.primary;
+      key = option_map arc_value s.key;
       file = string_bytes s.file;
       copy = s.copy;
     } };
@@ -63,11 +69,19 @@ impl Model for Secondary {
 fn is_entry_of(entry: &ZoneEntry, apex: &Name, primary: SocketAddr) -> bool
     ensures { result ≡ is_entry_of entry.now.primary entry.now.name.name apex.now primary }
 {
-    match entry.primary {
-        Some(endpoint) => {
-            entry.name.name == *apex && same_socket_addr(endpoint.address, primary)
-        }
+    match &entry.primary {
+        Some(peer) => entry.name.name == *apex && same_socket_addr(peer.address, primary),
         None => false,
+    }
+}
+
+/// A key, shared once more.
+fn shared_key(key: &Option<Arc<Key>>) -> Result<Option<Arc<Key>>, OutOfMemory>
+    ensures { IfOk result (λ shared. option_map arc_value shared ≡ option_map arc_value key.now) }
+{
+    match key {
+        Some(key) => Ok(Some(Arc::try_clone(key)?)),
+        None => Ok(None),
     }
 }
 
@@ -98,20 +112,24 @@ fn unshared(checking: Option<Arc<Checking>>) -> Option<Checking> {
 }
 
 impl Secondary {
-    /// The secondary of an entry that has this primary. It begins with the copy that is served, which was current at a moment.
+    /// The secondary of an entry that has this primary, with which a key may be shared. It begins with the copy that is served,
+    /// which was current at a moment.
     pub(crate) fn new(
         alloc: Global,
         entry: &ZoneEntry,
         primary: SocketAddr,
+        key: Option<Arc<Key>>,
         served: Option<SoaTimers>,
         current: u64,
     ) -> Result<Secondary, OutOfMemory>
-        ensures { IfOk result (λ s. s ≡ begun entry.now.name.name primary (string_bytes entry.now.file) served current) }
+        ensures { IfOk result
+            (λ s. s ≡ begun entry.now.name.name primary (option_map arc_value key) (string_bytes entry.now.file) served current) }
     {
         let file = String::from_str(alloc, entry.file.as_str())?;
         Ok(Secondary {
             apex: entry.name.name.try_clone(alloc)?,
             primary,
+            key,
             file,
             copy: ZoneCopy::new(primary.ip, served, current),
             mark: Arc::new(alloc, AtomicBool::new(false))?,
@@ -127,6 +145,7 @@ impl Secondary {
         Ok(Secondary {
             apex: self.apex.try_clone(alloc)?,
             primary: self.primary,
+            key: shared_key(&self.key)?,
             file,
             copy: self.copy,
             mark: Arc::try_clone(&self.mark)?,
@@ -226,19 +245,22 @@ impl Secondary {
         }
     }
 
-    /// Goes on to the file of an entry and to the copy that is served of it, which was current at a moment.
+    /// Goes on to the file of an entry, to a key, and to the copy that is served, which was current at a moment.
     pub(crate) fn follow(
         &mut self,
         alloc: Global,
         entry: &ZoneEntry,
+        key: Option<Arc<Key>>,
         served: Option<SoaTimers>,
         current: u64,
         now: u64,
     ) -> Result<(), OutOfMemory>
-        ensures ok { OnOk result (self.new ≡ followed self.old (string_bytes entry.now.file) served current now) }
+        ensures ok { OnOk result
+            (self.new ≡ followed self.old (option_map arc_value key) (string_bytes entry.now.file) served current now) }
         ensures err { OnErr result (self.new ≡ self.old) }
     {
         self.file = String::from_str(alloc, entry.file.as_str())?;
+        self.key = key;
         self.follow_copy(served, current, now);
         Ok(())
     }
@@ -352,13 +374,19 @@ impl Secondary {
     }
 
     /// Begins a check.
-    fn begin<R: Net + Threads>(&mut self, rt: &R, alloc: Global, now: u64) -> anyhow::Result<()>
+    fn begin<R: Net + Threads + Clock + Copy + Send + 'static>(
+        &mut self,
+        rt: &R,
+        alloc: Global,
+        now: u64,
+    ) -> anyhow::Result<()>
         ensures { self.new ≡ record self.old { copy = checking self.old.copy now } }
     {
         self.copy.begin(now);
         let check = Check {
             apex: self.apex.try_clone(alloc)?,
             stream: connect(rt, self.primary)?,
+            key: shared_key(&self.key)?,
             copy: self.copy,
             stop: Arc::new(alloc, AtomicBool::new(false))?,
         };
@@ -380,7 +408,7 @@ impl Secondary {
     }
 
     /// Begins a check that is due, unless one is going on. That it can't be begun is logged. Whether one was begun.
-    pub(crate) fn begin_due<R: Net + Log + Threads>(
+    pub(crate) fn begin_due<R: Net + Log + Threads + Clock + Copy + Send + 'static>(
         &mut self,
         rt: &R,
         alloc: Global,

@@ -95,7 +95,7 @@ fn served(row: &mut Row<'_>) {
         port: 5353,
     };
     match Request::new(alloc, sender, 0, second, message, transport, ()) {
-        Ok(mut request) => called(row, &service, &mut request),
+        Ok(mut request) => given_by(row, &service, &mut request),
         Err(_) => row.fail(RowError::OutOfMemory),
     }
 }
@@ -108,7 +108,7 @@ fn store(alloc: Global, key: Key) -> Result<KeyStore, OutOfMemory> {
 }
 
 /// What a service says to a request.
-fn called<S: Service<()>>(row: &mut Row<'_>, service: &S, request: &mut Request<()>)
+pub fn given_by<S: Service<Meta>, Meta>(row: &mut Row<'_>, service: &S, request: &mut Request<Meta>)
     requires { S.can_call service.now }
 {
     let alloc = row.alloc();

@@ -4,9 +4,9 @@ use Rattle.std.specs.List.{list_any}
 use Rattle.std.specs.declared.alloc.Global.{Global}
 use Rattle.std.specs.declared.vec.Vec.{Vec}
 use Rattle.dns_authority.specs.Network.{Network}
-use Rattle.dns_config.specs.declared.address.Endpoint.{Endpoint}
 use Rattle.dns_config.specs.declared.config.ZoneEntry.{ZoneEntry}
-use Rattle.dns_config.specs.declared.prefix.Prefix.{Prefix}
+use Rattle.dns_config.specs.declared.peer.AllowedNetwork.{AllowedNetwork}
+use Rattle.dns_config.specs.declared.peer.Peer.{Peer}
 use Rattle.dns_generation.specs.Generations.{AddsFile, GenerationState, network_of, with_withheld}
 use Rattle.dns_generation.specs.declared.generation.ZoneSummary.{ZoneSummary}
 use Rattle.dns_zone_copies.specs.Secondaries.{SecondaryState, is_of, lacks_copy}
@@ -40,10 +40,14 @@ AreWithout secondaries (e ∷ es) (z ∷ zs) (o ∷ os) =
 
 -- ---- zones of files
 
+-- a network to which zones are transferred, whatever key it wants
+abbrev pub allowed_network : AllowedNetwork → Network
+allowed_network one = network_of one.network
+
 -- the networks to which a zone is transferred: its own, or those for all
-abbrev pub networks_of : Option (Vec Prefix Global) → List Network → List Network
+abbrev pub networks_of : Option (Vec AllowedNetwork Global) → List Network → List Network
 networks_of None all = all
-networks_of (Some own) all = map network_of own.items
+networks_of (Some own) all = map allowed_network own.items
 
 -- the zone that a file writes is after the others
 pub record FileIsRead (e : ZoneEntry) (a b : GenerationState) : Type 0 where
@@ -55,7 +59,7 @@ abbrev pub CopyIsRead : List SecondaryState → ZoneEntry → GenerationState �
 CopyIsRead near e a b =
     MatchBool (lacks e near) (b ≡ with_withheld e.name.name a) (FileIsRead e a b ⊎ (b ≡ with_withheld e.name.name a))
 
-abbrev pub EntryIsRead : List SecondaryState → ZoneEntry → Option Endpoint → GenerationState → GenerationState → Type 0
+abbrev pub EntryIsRead : List SecondaryState → ZoneEntry → Option Peer → GenerationState → GenerationState → Type 0
 EntryIsRead near e None a b = FileIsRead e a b
 EntryIsRead near e (Some primary) a b = CopyIsRead near e a b
 

@@ -2,12 +2,13 @@
 
 ghost use Rattle.std.specs.Prelude.{◌≡◌, ◌↔◌, false, true, IfOk, IsOk, OnErr, OnOk, if◌then◌else◌, map, string_bytes};
 ghost use Rattle.std.specs.List.{list_any};
-ghost use Rattle.dns_generation.specs.Generations.{AddsFile, network_of, with_withheld};
+ghost use Rattle.dns_generation.specs.Generations.{AddsFile, with_withheld};
 ghost use Rattle.dns_zone_copies.specs.Secondaries.{lacks_copy};
-ghost use Rattle.zoned.specs.Loading.{AreNear, AreWithout, CopyIsRead, EntryIsRead, FileIsRead, ReadsAll, networks_of, no_zones};
+ghost use Rattle.zoned.specs.Loading.{AreNear, AreWithout, CopyIsRead, EntryIsRead, FileIsRead, ReadsAll, allowed_network, networks_of, no_zones};
 ghost use Rattle.zoned.specs.Zones.{is_entry_named, stands_twice, without_data};
 
 use crate::configuration::load_config;
+use crate::keys::Keys;
 use anyhow::{Context, bail};
 use dns_config::{Config, ZoneEntry};
 use dns_generation::{Generation, ZoneSummary, networks};
@@ -33,8 +34,8 @@ fn add_zone(
 {
     let apex = &entry.name.name;
     match &entry.allow_transfer {
-        Some(prefixes) => {
-            let allowed = networks(alloc, prefixes.as_slice())?;
+        Some(rules) => {
+            let allowed = networks(alloc, rules.as_slice())?;
             generation.add_for(alloc, apex, text, allowed)?;
         }
         None => generation.add(alloc, apex, text)?,
@@ -177,7 +178,7 @@ fn load_entry(
 ) -> anyhow::Result<()>
     ensures { OnOk result (EntryIsRead secondaries.now entry.now entry.now.primary generation.old generation.new) }
 {
-    match entry.primary {
+    match &entry.primary {
         Some(_) => load_copy(rt, generation, secondaries, entry),
         None => load_zone(rt, generation, entry),
     }
@@ -190,7 +191,7 @@ pub(crate) fn load_generation(
     secondaries: &[Secondary],
 ) -> anyhow::Result<Generation>
     ensures { IfOk result (ReadsAll secondaries.now config.now.zone.items
-        (no_zones (map network_of config.now.allow_transfer.items))) }
+        (no_zones (map allowed_network config.now.allow_transfer.items))) }
 {
     let allowed = networks(rt.alloc(), config.allow_transfer.as_slice())?;
     let mut generation = Generation::new(rt.alloc(), allowed);
@@ -237,6 +238,7 @@ pub(crate) fn report(
 pub(crate) fn check(rt: &HostRuntime, path: &str) -> anyhow::Result<()> {
     let config = load_config(rt, path)?;
     refuse_twice(&config)?;
+    let _ = Keys::of(rt, &config).context(format_args!("{path}"))?;
     let generation = load_generation(rt, &config, &[])?;
     for endpoint in config.listen.iter() {
         println!(rt; "listen {}", SocketAddrText(endpoint.address))?;

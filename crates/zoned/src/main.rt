@@ -1,7 +1,7 @@
 //! A name server: serves the zones of a configuration, judges a configuration, or speaks to a server that runs.
 //!
-//! - `words` has the words of the command line, and `load` reads configurations and zones. `orders` are what a running server is
-//!   asked for, and `measures` what it tells at its page of metrics.
+//! - `words` has the words of the command line, `load` reads configurations and zones, and `keys` reads keys. `orders` are what
+//!   a running server is asked for, and `measures` what it tells at its page of metrics.
 //! - `server` goes from generation to generation: it looks every 50 ms whether something is asked, and shuts the listeners
 //!   down if something else is to be served. Its part `obey` does what is asked. `served_config` is what is served at a time.
 //!
@@ -19,6 +19,9 @@
 //! - Each zone is read of its file, in their order, to be transferred to its own networks or to those for all (`ReadsAll`).
 //! - A zone whose secondary has no copy is without data in what is read. So it is in what is served where zones can't be read
 //!   again (`AreWithout`).
+//! - The keys that are read are those of the configuration, in their order: by name, algorithm and the secret that stands there. A
+//!   zone one of whose networks wants a key is judged by all of them. One whose primary shares a key is judged by that
+//!   (`Keys::of`).
 //! - The status of the program: 0 if all was done, 1 with a line that says the fault, 2 for faulty words.
 //!
 //! # What a body could still get away with
@@ -33,6 +36,7 @@ ghost use Rattle.clap.specs.Values.{kind_of};
 ghost use Rattle.clap.specs.declared.error.kind.ErrorKind.TheVariants.{DisplayHelp, DisplayVersion};
 
 mod configuration;
+mod keys;
 mod load;
 mod measures;
 mod orders;

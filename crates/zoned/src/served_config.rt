@@ -1,7 +1,9 @@
 //! What is served at a time, with its number.
 
 use crate::configuration::load_config;
+use crate::keys::Keys;
 use crate::load::{load_generation, refuse_twice, summaries_without};
+use anyhow::Context;
 use dns_authority::Authority;
 use dns_config::Config;
 use dns_generation::ZoneSummary;
@@ -96,21 +98,23 @@ impl Judged {
     }
 }
 
-/// A configuration, its settings and its zones as they are served.
+/// A configuration, its settings, its keys and its zones as they are served.
 #[derive(Drop)]
 pub(crate) struct ServedConfig {
     pub(crate) number: u64,
     pub(crate) config: Arc<Config>,
     pub(crate) settings: Settings,
+    pub(crate) keys: Keys,
     pub(crate) zones: Judged,
 }
 
 impl ServedConfig {
-    /// Reads and judges the zones of a configuration. Zones whose secondary has no copy are without data.
+    /// Reads and judges the zones of a configuration with these keys. Zones whose secondary has no copy are without data.
     fn of(
         rt: &HostRuntime,
         number: u64,
         config: Arc<Config>,
+        keys: Keys,
         secondaries: &[Secondary],
     ) -> anyhow::Result<ServedConfig> {
         let settings = config.settings(rt.alloc())?;
@@ -119,11 +123,12 @@ impl ServedConfig {
             number,
             config,
             settings,
+            keys,
             zones,
         })
     }
 
-    /// Reads and judges a configuration and its zones.
+    /// Reads and judges a configuration, its keys and its zones.
     pub(crate) fn load(
         rt: &HostRuntime,
         number: u64,
@@ -132,17 +137,20 @@ impl ServedConfig {
     ) -> anyhow::Result<ServedConfig> {
         let config = Arc::new(rt.alloc(), load_config(rt, path)?)?;
         refuse_twice(&config)?;
-        ServedConfig::of(rt, number, config, secondaries)
+        let keys = Keys::of(rt, &config).context(format_args!("{path}"))?;
+        ServedConfig::of(rt, number, config, keys, secondaries)
     }
 
-    /// What follows if a copy came or went: the zones of the configuration are read and judged again.
+    /// What follows if a copy came or went: the zones of the configuration are read and judged again. Its keys stay.
     pub(crate) fn renewed(
         &self,
         rt: &HostRuntime,
         secondaries: &[Secondary],
     ) -> anyhow::Result<ServedConfig> {
         let config = Arc::try_clone(&self.config)?;
-        ServedConfig::of(rt, self.number.saturating_add(1), config, secondaries)
+        let keys = self.keys.again()?;
+        let number = self.number.saturating_add(1);
+        ServedConfig::of(rt, number, config, keys, secondaries)
     }
 
     /// What follows where zones can't be read again: these without the data of zones whose secondary has no copy; nothing if
@@ -160,6 +168,7 @@ impl ServedConfig {
             number: self.number.saturating_add(1),
             config: Arc::try_clone(&self.config)?,
             settings: self.settings.try_clone(alloc)?,
+            keys: self.keys.again()?,
             zones,
         }))
     }

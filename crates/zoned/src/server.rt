@@ -174,8 +174,9 @@ impl Server {
         let alloc = rt.alloc();
         let served = &self.served;
         let summaries = served.zones.summaries.as_slice();
+        let keys = &served.keys.shared;
         self.copies
-            .follow(rt, alloc, &served.config, summaries, now)?;
+            .follow(rt, alloc, &served.config, keys, summaries, now)?;
         if self.copies.discard_obsolete(rt, now) {
             self.withhold_lost(rt)?;
         }
@@ -212,6 +213,7 @@ impl Server {
             self.copies.target(),
             &served.config.nsid,
             self.counters.tally()?,
+            served.keys.rules(alloc)?,
         )
     }
 
@@ -252,7 +254,7 @@ impl Server {
 
     /// Looks at the copies and at the announcements of serials. If another copy came, or one went, the zones are read and
     /// judged again.
-    fn look<R: Net + Files + Clock + RandomSource + Threads + Log>(
+    fn look<R: Net + Files + Clock + RandomSource + Threads + Log + Copy + Send + 'static>(
         &mut self,
         machine: &R,
         rt: &HostRuntime,
@@ -270,7 +272,7 @@ impl Server {
 
     /// Logs the transfers that were noted, and does what a caller asks, or what the copies lead to. What fails is logged, and what is
     /// served stays.
-    fn turn<R: Net + Files + Clock + RandomSource + Threads + Wait + Log>(
+    fn turn<R: Net + Files + Clock + RandomSource + Threads + Wait + Log + Copy + Send + 'static>(
         &mut self,
         machine: &R,
         rt: &HostRuntime,
@@ -286,7 +288,7 @@ impl Server {
     }
 
     /// Waits until another generation is to be served, or none, or a listener ends by itself. Then each listener is shut down.
-    fn wait<R: Net + Files + RandomSource + Threads + Wait + Clock + Log>(
+    fn wait<R: Net + Files + RandomSource + Threads + Wait + Clock + Log + Copy + Send + 'static>(
         &mut self,
         machine: &R,
         rt: &HostRuntime,
@@ -308,7 +310,7 @@ impl Server {
     }
 
     /// Shuts each listener down where not all could be started, does what a caller asks, and waits.
-    fn pause<R: Net + Files + RandomSource + Threads + Wait + Clock + Log>(
+    fn pause<R: Net + Files + RandomSource + Threads + Wait + Clock + Log + Copy + Send + 'static>(
         &mut self,
         machine: &R,
         rt: &HostRuntime,
@@ -321,10 +323,12 @@ impl Server {
     }
 
     /// Announces the serials that are served.
-    fn tell(&mut self, alloc: Global) -> Result<(), OutOfMemory> {
+    fn tell(&mut self, alloc: Global) -> anyhow::Result<()> {
         let served = &self.served;
         let summaries = served.zones.summaries.as_slice();
-        self.notifier.tell_changes(alloc, &served.config, summaries)
+        let keys = &served.keys.shared;
+        self.notifier
+            .tell_changes(alloc, &served.config, keys, summaries)
     }
 
     /// Shows the generation that is served in the metrics.
@@ -348,8 +352,8 @@ impl Server {
         info!(rt; "generation {} is served", self.served.number);
         self.phase = Phase::Serving;
         self.show(&machine, rt.alloc())?;
-        if self.tell(rt.alloc()).is_err() {
-            error!(rt; "NOTIFY: out of memory");
+        if let Err(fault) = self.tell(rt.alloc()) {
+            error!(rt; "NOTIFY: {fault:#}");
         }
         let (mut running, refused) = self.start(machine, rt.alloc(), listeners)?;
         if refused.is_empty() {

@@ -1,14 +1,13 @@
 use Rattle.std.proofs.Common.{◌≡◌, ◌<◌, List, ap, arith, get_or, length, map, subst}
 use Rattle.dns_config.specs.declared.config.ZoneEntry.{ZoneEntry}
-use Rattle.dns_generation.specs.Generations.{network_of}
 use Rattle.zoned.proofs.Loaded.{leads_all, leads_more}
-use Rattle.zoned.specs.Loading.{no_zones}
+use Rattle.zoned.specs.Loading.{allowed_network, no_zones}
 use Rattle.zoned.proofs.load.load_generation.Goals as goal
 
 pub each-preserved : goal.each-preserved
 each-preserved c =
     let es = c.args.config.now.zone.items in
-    let start = no_zones (map network_of c.args.config.now.allow_transfer.items) in
+    let start = no_zones (map allowed_network c.args.config.now.allow_transfer.items) in
     let i = c.each.entry-index in
     let e = c.entry-item.result in
     let same : c.deref-entry-items.result.now ≡ es = c.deref-entry-items.ensures.value in
@@ -21,6 +20,6 @@ each-preserved c =
 pub returns : goal.returns
 returns c =
     let es = c.args.config.now.zone.items in
-    let start = no_zones (map network_of c.args.config.now.allow_transfer.items) in
+    let start = no_zones (map allowed_network c.args.config.now.allow_transfer.items) in
     let many : length c.deref-entry-items.result.now ≡ length es = ap length c.deref-entry-items.ensures.value in
     leads_all c.args.secondaries.now es start c.each.entry-index c.each.generation (omega arith) c.each.invariant
