@@ -43,6 +43,7 @@
 mod check;
 mod error;
 mod glue;
+mod guide;
 mod hints;
 mod keys;
 mod kinds;
