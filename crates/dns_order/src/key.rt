@@ -54,18 +54,16 @@ fn push_label(label: &[u8], octets: &mut Vec<u8>) -> Result<(), OutOfMemory>
 }
 
 /// Appends the keys of labels, from the last one on.
-#[tactic(auto, using(crate::proofs::KeyLaws::keys_pushed))]
 fn push_labels(labels: Labels<'_>, octets: &mut Vec<u8>) -> Result<(), OutOfMemory>
     ensures { OnOk result (octets.new.items ≡ octets.old.items ++ labels_key (from_last labels.entry)) }
 {
     let mut left = labels;
-    match left.next() {
-        Some(label) => {
-            push_labels(left, octets)?;
-            push_label(label, octets)
-        }
-        None => Ok(()),
-    }
+    let Some(label) = left.next() else {
+        return Ok(());
+    };
+    push_labels(left, octets)?;
+    push_label(label, octets)?;
+    Ok(())
 }
 
 /// The key of a name: octets that compare as names do in the canonical order (RFC 4034, section 6.1). It begins with the keys of
