@@ -38,22 +38,22 @@ none_of_three false true c h = absurd (cc)
 none_of_three false false true h = absurd (cc)
 none_of_three false false false h = (refl, (refl, refl))
 
-or_true : (b : Bool) → (b || true) ≡ true
+pub or_true : (b : Bool) → (b || true) ≡ true
 or_true true = refl
 or_true false = refl
 
-none_either : {A : Type 0} (b : Bool) (x : A) → x ≡ (if b then x else x)
+pub none_either : {A : Type 0} (b : Bool) (x : A) → x ≡ (if b then x else x)
 none_either true x = refl
 none_either false x = refl
 
-equal_of : (a t : ℕ) → nat_eq a t ≡ true → a ≡ t
+pub equal_of : (a t : ℕ) → nat_eq a t ≡ true → a ≡ t
 equal_of a t h = grind (arith, nat_tests)
 
 equal_to : (a b t : ℕ) → a ≡ t → b ≡ t → nat_eq a b ≡ true
 equal_to a b t h k = grind (arith, nat_tests)
 
 -- what a filter keeps passes its test
-all_kept : (p : Record → Bool) (rs : List Record) → AllByRecursion (λ (r : Record). p r ≡ true) (filter p rs)
+pub all_kept : (p : Record → Bool) (rs : List Record) → AllByRecursion (λ (r : Record). p r ≡ true) (filter p rs)
 all_kept p [] = tt
 all_kept p (r ∷ rs) = by_test (p r) refl (all_kept p rs)
   where
@@ -64,7 +64,7 @@ all_kept p (r ∷ rs) = by_test (p r) refl (all_kept p rs)
 -- ---- records of one RRset
 
 -- a record of a name, of a type
-record IsOwn (name : List (List ℕ)) (t : ℕ) (r : Record) : Type 0 where
+pub record IsOwn (name : List (List ℕ)) (t : ℕ) (r : Record) : Type 0 where
   pub owner : same_name r.owner name ≡ true
   pub type_ : data_type r.rdata ≡ t
 
@@ -74,11 +74,11 @@ module _ (name : List (List ℕ)) (t : ℕ) (no_any : nat_eq t 255 ≡ false) wh
       let p = and_parts (is_owned name r) (nat_eq t 255 || is_of t r) h in
       record { owner = p.0; type_ = equal_of (data_type r.rdata) t (sym (ap (λ (b : Bool). b || is_of t r) no_any) ∙ p.1) }
 
-  all_own : (rs : List Record) → AllByRecursion (λ (r : Record). is_asked name t r ≡ true) rs → AllByRecursion (IsOwn name t) rs
+  pub all_own : (rs : List Record) → AllByRecursion (λ (r : Record). is_asked name t r ≡ true) rs → AllByRecursion (IsOwn name t) rs
   all_own [] w = tt
   all_own (r ∷ rs) w = (own_asked r w.0, all_own rs w.1)
 
-beside_own : (name : List (List ℕ)) (t : ℕ) (r s : Record) → IsOwn name t r → IsOwn name t s → is_beside r s ≡ true
+pub beside_own : (name : List (List ℕ)) (t : ℕ) (r s : Record) → IsOwn name t r → IsOwn name t s → is_beside r s ≡ true
 beside_own name t r s a b =
     λ i. same_trans r.owner name s.owner a.owner (same_back s.owner name b.owner) i && equal_to (data_type r.rdata) (data_type s.rdata) t a.type_ b.type_ i
 
