@@ -10,7 +10,7 @@ use Rattle.dns_base.specs.Records.{data_type, record_of}
 use Rattle.dns_message.specs.declared.question.Question.{Question}
 use Rattle.dns_message.specs.declared.record.Record.{Record}
 use Rattle.dns_route.specs.Routes.{ends_name}
-use Rattle.dns_zone.specs.Owned.{ZoneState, asked_records, is_asked, is_of}
+use Rattle.dns_zone.specs.Owned.{ZoneState, asked_records, is_asked, is_of, is_owned}
 use Rattle.dns_zone.specs.Places.{at_places}
 use Rattle.dns_zone.specs.ZoneReply.{ZoneReply, denied as negative, exists, follows, negative_soa}
 use Rattle.dns_zone.specs.ZoneTurns.{zone_message}
@@ -20,13 +20,14 @@ use Rattle.dns_zone_tree.specs.Regions.{Region, Within, BelowCut, BelowDname, as
 use Rattle.dns_zone_tree.specs.Walks.{ReachesNode}
 use Rattle.dns_zone_tree.specs.Wildcards.{had_records, wildcard}
 use Rattle.dns_zone_tree.specs.declared.kinds.Kinds.{Kinds}
-use Rattle.dns_denial.specs.Chains.{IsWhole}
+use Rattle.dns_denial.specs.Chains.{IsWhole, is_below_cut}
 use Rattle.dns_denial.specs.Nsecs.{AreSorted, NsecState}
 use Rattle.dns_denial.specs.Signed.{is_beside}
+use Rattle.dns_denial.proofs.ListLaws.{found}
 use Rattle.dns_denial.proofs.NameLaws.{ends_trans, same_back, same_ends, same_trans}
 use Rattle.dns_denial.proofs.RegionLaws.{asked_below, reached}
 use Rattle.dns_denial.proofs.SameLaws.{below_as, dname_as}
-use Rattle.dns_denial.proofs.StartLaws.{starts}
+use Rattle.dns_denial.proofs.StartLaws.{starts, within_all}
 use Rattle.dns_name_server.specs.NameServerReplies.{name_server_reply}
 use Rattle.dns_name_server.specs.Steps.{head_of}
 use Rattle.dns_signed_zone.specs.SignedZones.{SignedState}
@@ -291,6 +292,13 @@ module _ (z : ZoneState) (ns : List NsecState) (whole : IsWhole z ns) (name : Li
   reached_rrsigs (Some m) h =
       let k = reached_nsecs (Some m) h in
       ap (λ (l : List Record). first_covering l (at_places z.records (kind_places 46 m))) k ∙ by_first m h (owned_records z name 47) (owned_own z name)
+
+-- an NSEC's owner is in the zone
+pub owner_inside : (z : ZoneState) (ns : List NsecState) → IsWhole z ns → (n : NsecState) → Contains ns n → ends_name n.owner z.apex ≡ true
+owner_inside z ns w n c =
+    let p = and_parts (list_any (is_owned n.owner) z.records) (not (is_below_cut z n.owner)) (w.chain.owed n c) in
+    let f = found (is_owned n.owner) z.records p.0 in
+    ends_trans n.owner f.one.owner z.apex (same_ends n.owner f.one.owner (same_back f.one.owner n.owner f.passes)) (within_all z.apex z.records (starts z w.zone).within f.one f.there)
 
 -- ---- two owners
 

@@ -21,7 +21,7 @@ ghost use Rattle.dns_signed_reply.specs.PlainReplies.{said};
 ghost use Rattle.dns_signed_reply.specs.SignedReplies.{as_room, do_reply, nearest, timed};
 
 use crate::plain::{PlainReply, authoritative};
-use crate::records::{DS, first_of, is_in_zone};
+use crate::records::{DS, first_of};
 use crate::reply::{add_written, built};
 use crate::rrsigs::{add_signatures, is_signature, timed};
 use dns_base::{AdditionalBuilder, Message, NameRef, PushError, Rcode, Record, WireRecords};
@@ -198,7 +198,7 @@ fn write_soa_rrsigs(
 }
 
 /// The places of the records of a name in the zone, if the zone has authority over it and it exists.
-fn reached_within<'a>(
+fn reached<'a>(
     zone: &'a ZoneTree,
     alloc: Global,
     name: &NameRef<'_>,
@@ -215,26 +215,13 @@ fn reached_within<'a>(
     }
 }
 
-/// The places of the records of a name, if the zone has authority over it and it exists.
-fn reached<'a>(
-    zone: &'a ZoneTree,
-    alloc: Global,
-    name: &NameRef<'_>,
-) -> Result<Option<&'a Kinds>, OutOfMemory>
-    ensures { IfOk result (λ o. IsReached zone.now name.now (option_copied o)) }
-{
-    if is_in_zone(zone, name) {
-        return reached_within(zone, alloc, name);
-    }
-    Ok(None)
-}
-
 /// The places of the records of the owner of an NSEC, if the zone has authority over it and it exists.
 fn owner_of<'a>(
     zone: &'a ZoneTree,
     alloc: Global,
     nsec: &Nsec,
 ) -> Result<Option<&'a Kinds>, OutOfMemory>
+    requires { IsTrue (ends_name nsec.now.owner zone.now.apex) }
     ensures { IfOk result (λ o. IsReached zone.now nsec.now.owner (option_copied o)) }
 {
     reached(zone, alloc, &nsec.owner().for_ref())
