@@ -9,14 +9,14 @@ ghost use Rattle.dns_denial.specs.Nsecs.{AreSorted};
 
 use crate::chain_error::ChainError;
 use crate::check::checked;
-use crate::encloser::wildcard;
+use crate::encloser::wildcard_key;
 use crate::guide::Guide;
 use crate::laws::{
     ds_is_proved_absent, expansions_are_proved, insecure_delegations_are_proved,
     name_errors_are_proved, no_data_is_proved, wildcard_no_data_is_proved,
 };
 use crate::nsec::Nsec;
-use crate::search::{are_sorted, last_of};
+use crate::search::{are_sorted, last_of, last_up_to};
 use dns_name::{NameRef, OutOfMemory};
 use dns_zone_tree::ZoneTree;
 use std::alloc::Global;
@@ -137,8 +137,8 @@ impl Chain {
     ) -> Result<Option<&Nsec>, OutOfMemory>
         ensures { IfOk result (IsLastBelow self.now nsec.now name.now) }
     {
-        match wildcard(alloc, nsec, name)? {
-            Some(below) => self.last_up_to(alloc, &below.for_ref()),
+        match wildcard_key(alloc, nsec, name)? {
+            Some(key) => Ok(last_up_to(self.nsecs(), &self.guide, key.as_slice())),
             None => Ok(None),
         }
     }

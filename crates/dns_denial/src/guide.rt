@@ -6,10 +6,7 @@ use crate::nsec::Nsec;
 use dns_name::OutOfMemory;
 use std::alloc::Global;
 
-/// How many NSECs one number stands for.
-const STEP: usize = 8;
-
-/// Of each eighth key eight octets as a number: those behind what all keys begin with.
+/// Of each key eight octets as a number: those behind what all keys begin with.
 #[derive(Drop)]
 pub(crate) struct Guide {
     skipped: usize,
@@ -63,11 +60,9 @@ impl Guide {
     /// That of NSECs in order, if there is memory for it.
     fn made(alloc: Global, nsecs: &[Nsec]) -> Result<Guide, OutOfMemory> {
         let skipped = skipped_of(nsecs);
-        let mut numbers = Vec::with_capacity(alloc, (nsecs.len() / STEP).saturating_add(1))?;
-        'each: for (place, nsec) in nsecs.iter().enumerate() {
-            if place % STEP == 0 {
-                numbers.push(number_of(nsec.key(), skipped))?;
-            }
+        let mut numbers = Vec::with_capacity(alloc, nsecs.len())?;
+        'each: for nsec in nsecs {
+            numbers.push(number_of(nsec.key(), skipped))?;
         }
         Ok(Guide { skipped, numbers })
     }
@@ -95,10 +90,8 @@ impl Guide {
     /// How many NSECs may not be after the name of a key.
     pub(crate) fn count_up_to(&self, nsecs: &[Nsec], key: &[u8]) -> usize {
         let (low, high) = self.range(number_of(key, self.skipped));
-        let start = low.saturating_sub(1).saturating_mul(STEP);
-        let end = high.saturating_mul(STEP).min(nsecs.len());
-        match nsecs.get(start..end) {
-            Some(some) => start.saturating_add(some.partition_point(|nsec| nsec.is_up_to(key))),
+        match nsecs.get(low..high) {
+            Some(some) => low.saturating_add(some.partition_point(|nsec| nsec.is_up_to(key))),
             None => 0,
         }
     }

@@ -54,7 +54,7 @@ fn count_up_to(nsecs: &[Nsec], guide: &Guide, key: &[u8]) -> usize
 }
 
 /// The last NSEC that isn't after the name of a key.
-fn last_up_to<'a>(nsecs: &'a [Nsec], guide: &Guide, key: &[u8]) -> Option<&'a Nsec>
+pub(crate) fn last_up_to<'a>(nsecs: &'a [Nsec], guide: &Guide, key: &[u8]) -> Option<&'a Nsec>
     requires { AreSorted nsecs.now }
     ensures { (name : List (List ℕ)) → key.now ≡ canonical_key name → IsLastOf nsecs.now name result }
 {
