@@ -1,30 +1,32 @@
-//! Where names of an index are looked for first.
+//! Where names that own records are looked for first.
 //!
-//! A hint is a place that may be that of a key's node. It says nothing of itself: whoever takes one compares the key that stands at
-//! the place. What isn't found so is searched for.
+//! A hint is a place that may be that of a name's node. It says nothing of itself: whoever takes one compares the owner of the records
+//! that the node has. What isn't found so is searched for.
 
-use crate::names::{Node, key_of};
+use crate::kinds::first_record;
+use crate::names::Node;
+use dns_base::Record;
 use dns_name::OutOfMemory;
 use std::alloc::Global;
 
-/// How many places in a row may have the hint of a key.
+/// How many places in a row may have the hint of a name.
 pub(crate) const PROBES: usize = 8;
 
 /// No hint.
 const NONE: u32 = 4294967295;
 
-/// How many nodes have hints that show eight bits of the hash of their keys.
+/// How many nodes have hints that show eight bits of the hash of their names.
 const MARKED: usize = 16777215;
 
-/// A table of the places of nodes, twice as long as there are nodes, by the hash of their keys. In the lowest bits of each stand
-/// bits of the hash, unless there are too many nodes. So a hint for another key is mostly known without a look at its node.
+/// A table of the places of nodes, twice as long as there are nodes, by the hash of their names. In the lowest bits of each stand
+/// bits of the hash, unless there are too many nodes. So a hint for another name is mostly known without a look at its node.
 #[derive(Drop)]
 pub(crate) struct Hints {
     places: Vec<u32>,
     bits: u32,
 }
 
-/// Where the hints of a key begin, and the bits of its hash that they show.
+/// Where the hints of a name begin, and the bits of its hash that they show.
 #[derive(Clone, Copy)]
 pub(crate) struct Look {
     start: usize,
@@ -36,17 +38,17 @@ pub(crate) struct Look {
 pub(crate) enum Hint {
     /// No hint, and none after it.
     None,
-    /// That of another key.
+    /// That of another name.
     Other,
     /// The place of a node.
     Node(usize),
 }
 
-/// A hash of octets (FNV-1a, mixed once more).
+/// A hash of octets in lower case (FNV-1a, mixed once more).
 fn hash_of(octets: &[u8]) -> u32 {
     let mut hash = 2166136261u32;
     'octets: for octet in octets {
-        hash = (hash ^ *octet as u32).wrapping_mul(16777619);
+        hash = (hash ^ octet.to_ascii_lowercase() as u32).wrapping_mul(16777619);
     }
     let mixed = (hash ^ (hash >> 15)).wrapping_mul(2246822507);
     mixed ^ (mixed >> 13)
@@ -60,9 +62,9 @@ fn bits_for(count: usize) -> u32 {
     0
 }
 
-/// Where the hints of a key begin in a table of a length, and what of its hash they show.
-fn look_for(key: &[u8], length: usize, bits: u32) -> Look {
-    let hash = hash_of(key);
+/// Where the hints of a name's octets begin in a table of a length, and what of their hash they show.
+fn look_for(octets: &[u8], length: usize, bits: u32) -> Look {
+    let hash = hash_of(octets);
     let rows = length.saturating_sub(PROBES) as u64;
     let start = (hash as u64).wrapping_mul(rows) >> 32;
     let mark = if bits == 8 { hash & 255 } else { 0 };
@@ -81,7 +83,7 @@ fn hint_of(place: usize, look: Look, bits: u32) -> u32 {
     place
 }
 
-/// Writes the hint of a key where it has room.
+/// Writes the hint of a name where it has room.
 fn write_hint(places: &mut Vec<u32>, look: Look, hint: u32) {
     'probes: for probe in 0..PROBES {
         let at = look.start.saturating_add(probe);
@@ -103,24 +105,30 @@ impl Hints {
         }
     }
 
-    /// Those of the nodes of keys.
-    pub(crate) fn of(alloc: Global, octets: &[u8], nodes: &[Node]) -> Result<Hints, OutOfMemory> {
+    /// Those of nodes, by the owners of their records.
+    pub(crate) fn of(
+        alloc: Global,
+        records: &[Record],
+        nodes: &[Node],
+    ) -> Result<Hints, OutOfMemory> {
         let size = nodes.len().saturating_mul(2).saturating_add(PROBES);
         let bits = bits_for(nodes.len());
         let mut places = vec![in alloc; NONE; size]?;
         'each: for (place, node) in nodes.iter().enumerate() {
-            let look = look_for(key_of(octets, node.span), size, bits);
-            write_hint(&mut places, look, hint_of(place, look, bits));
+            if let Some(first) = first_record(records, node.kinds.as_slice()) {
+                let look = look_for(first.owner.as_slice(), size, bits);
+                write_hint(&mut places, look, hint_of(place, look, bits));
+            }
         }
         Ok(Hints { places, bits })
     }
 
-    /// Where the hints of a key are looked for.
-    pub(crate) fn look(&self, key: &[u8]) -> Look {
-        look_for(key, self.places.len(), self.bits)
+    /// Where the hints of a name's octets are looked for.
+    pub(crate) fn look(&self, octets: &[u8]) -> Look {
+        look_for(octets, self.places.len(), self.bits)
     }
 
-    /// The hint at one of the places that a key's may have.
+    /// The hint at one of the places that a name's may have.
     pub(crate) fn get(&self, look: Look, probe: usize) -> Hint {
         match self.places.get(look.start.saturating_add(probe)) {
             Some(hint) if *hint != NONE => {

@@ -1,13 +1,12 @@
 //! The index of a zone: the names that own records, in the canonical order.
 
-ghost use Rattle.std.specs.Prelude.{◌≡◌, ℕ, List, true, false, IfSome, IsTrue, Some, None};
+ghost use Rattle.std.specs.Prelude.{◌≡◌, ℕ, List, true, false, IsTrue, Some, None};
 ghost use Rattle.std.specs.List.{slice_get};
 ghost use Rattle.std.specs.Option.{option_copied, option_map_or};
 ghost use Rattle.std.specs.Str.{bytes_eq};
 ghost use Rattle.dns_zone_tree.specs.Nodes.{AreOrdered, IsCountBefore, has_star, is_before, key_of, kinds_by, kinds_under};
 
 use crate::guide::Guide;
-use crate::hints::{Hint, Hints, PROBES};
 use crate::kinds::{Kinds, TypedPlace};
 use dns_name::OutOfMemory;
 use std::alloc::Global;
@@ -40,7 +39,6 @@ pub(crate) struct Names {
     pub(crate) octets: Vec<u8>,
     pub(crate) nodes: Vec<Node>,
     pub(crate) none: Kinds,
-    pub(crate) hints: Hints,
     pub(crate) guide: Guide,
     pub(crate) stars: bool,
 }
@@ -138,7 +136,7 @@ fn kinds_by<'a>(own: &[u8], key: &[u8], kinds: &'a Kinds, none: &'a Kinds) -> Op
 }
 
 /// Whether a key is another one.
-fn is_key(own: &[u8], key: &[u8]) -> bool
+pub(crate) fn is_key(own: &[u8], key: &[u8]) -> bool
     ensures { result ≡ bytes_eq own.now key.now }
 {
     own == key
@@ -159,51 +157,31 @@ impl Names {
         self.stars
     }
 
-    /// Makes the hints and the guide.
-    pub(crate) fn hint(&mut self, alloc: Global) -> Result<(), OutOfMemory>
+    /// Makes the guide.
+    pub(crate) fn make_guide(&mut self, alloc: Global) -> Result<(), OutOfMemory>
         ensures { self.new ≡ self.old }
     {
-        self.hints = Hints::of(alloc, self.octets.as_slice(), self.nodes.as_slice())?;
         self.guide = Guide::of(alloc, self.octets.as_slice(), self.nodes.as_slice())?;
         Ok(())
     }
 
-    /// What the node at a place keeps, if its key is one.
-    fn kinds_if(&self, place: usize, key: &[u8]) -> Option<&Kinds>
-        ensures { IfSome result (λ m. Some m.now ≡ kinds_under self.now key.now) }
+    /// The octets of the keys.
+    pub(crate) fn octets(&self) -> &[u8]
+        ensures { result.now ≡ self.now.octets }
     {
-        match node_at(self.nodes.as_slice(), place) {
-            Some(node) => {
-                if is_key(key_of(self.octets.as_slice(), node.span), key) {
-                    return Some(&node.kinds);
-                }
-                None
-            }
-            None => None,
-        }
+        self.octets.as_slice()
     }
 
-    /// What is kept of the name of a key, if a hint leads to its node.
-    fn hinted(&self, key: &[u8]) -> Option<&Kinds>
-        ensures { IfSome result (λ m. Some m.now ≡ kinds_under self.now key.now) }
+    /// The node at a place, if there is one.
+    pub(crate) fn node(&self, place: usize) -> Option<&Node>
+        ensures node { option_copied result ≡ slice_get self.now.nodes place }
+        ensures ordered { AreOrdered self.now.octets self.now.nodes }
     {
-        let look = self.hints.look(key);
-        'probes: for probe in 0..PROBES {
-            match self.hints.get(look, probe) {
-                Hint::None => return None,
-                Hint::Other => {}
-                Hint::Node(place) => {
-                    if let Some(kinds) = self.kinds_if(place, key) {
-                        return Some(kinds);
-                    }
-                }
-            }
-        }
-        None
+        node_at(self.nodes.as_slice(), place)
     }
 
     /// What is kept of the name of a key, if it exists. The first node that doesn't come before the key says it.
-    fn searched(&self, key: &[u8]) -> Option<&Kinds>
+    pub(crate) fn kinds_at(&self, key: &[u8]) -> Option<&Kinds>
         ensures { option_copied result ≡ kinds_under self.now key.now }
     {
         let octets = self.octets.as_slice();
@@ -211,15 +189,6 @@ impl Names {
         match node_at(nodes, count_before(octets, nodes, &self.guide, key)) {
             Some(node) => kinds_by(key_of(octets, node.span), key, &node.kinds, &self.none),
             None => None,
-        }
-    }
-    /// What is kept of the name of a key, if it exists.
-    pub(crate) fn kinds_at(&self, key: &[u8]) -> Option<&Kinds>
-        ensures { option_copied result ≡ kinds_under self.now key.now }
-    {
-        match self.hinted(key) {
-            Some(kinds) => Some(kinds),
-            None => self.searched(key),
         }
     }
 }
