@@ -252,29 +252,29 @@ module _ (s : SignedState) (q : Question) (soa : Record) (e : negatives s.zone �
 
 -- names that are the same are reached alike
 module _ (z : ZoneState) (ns : List NsecState) (whole : IsWhole z ns) (a b : List (List ℕ)) (same : same_name a b ≡ true) where
-  same_within : asked_region z 43 a ≡ Within → asked_region z 43 b ≡ Within
-  same_within h = by_region (asked_region z 43 b) refl
+  same_within : (t : ℕ) → asked_region z t a ≡ Within → asked_region z 43 b ≡ Within
+  same_within t h = by_region (asked_region z 43 b) refl
     where
       back_same : same_name b a ≡ true
       back_same = same_back a b same
 
       by_region : (g : Region) → asked_region z 43 b ≡ g → g ≡ Within
       by_region Within k = refl
-      by_region (BelowCut ss) k = absurd (true≢false (sym (below_as z b a back_same (asked_below z (starts z whole.zone) b ss k)) ∙ (reached z (starts z whole.zone) 43 a h).first))
-      by_region (BelowDname ds) k = absurd (true≢false (sym (dname_as z b a back_same (asked_dname z 43 b ds k)) ∙ (reached z (starts z whole.zone) 43 a h).dname))
+      by_region (BelowCut ss) k = absurd (true≢false (sym (below_as z b a back_same (asked_below z (starts z whole.zone) b ss k)) ∙ (reached z (starts z whole.zone) t a h).first))
+      by_region (BelowDname ds) k = absurd (true≢false (sym (dname_as z b a back_same (asked_dname z 43 b ds k)) ∙ (reached z (starts z whole.zone) t a h).dname))
 
   asked_all : (t : ℕ) (rs : List Record) → filter (is_asked a t) rs ≡ filter (is_asked b t) rs
   asked_all t [] = refl
   asked_all t (r ∷ rs) = λ i. cond (asked_same z a b same t r i) (r ∷ asked_all t rs i) (asked_all t rs i)
 
-  pub same_reached : (m : Kinds) → ends_name a z.apex ≡ true → ReachesNode z 43 a m → at_places z.records (kind_places 46 m) ≡ reached_records z b (had_records z b 46)
-  same_reached m i h =
+  pub same_reached : (t : ℕ) (m : Kinds) → ends_name a z.apex ≡ true → ReachesNode z t a m → at_places z.records (kind_places 46 m) ≡ reached_records z b (had_records z b 46)
+  same_reached t m i h =
       let inside : ends_name b z.apex ≡ true = ends_trans b a z.apex (same_ends b a (same_back a b same)) i in
       let there : exists z b ≡ true = exists_same z b a (same_back a b same) h.exists_ in
-      node_asked z a 43 m h 46
+      node_asked z a t m h 46
       ∙ (asked_all 46 z.records
       ∙ (sym (own_had z b 46 there)
-      ∙ (sym (ap (λ (g : Region). if_within g (had_records z b 46)) (same_within h.region)) ∙ inside_is z b (had_records z b 46) inside)))
+      ∙ (sym (ap (λ (g : Region). if_within g (had_records z b 46)) (same_within t h.region)) ∙ inside_is z b (had_records z b 46) inside)))
 
 module _ (z : ZoneState) (ns : List NsecState) (whole : IsWhole z ns) (name : List (List ℕ)) where
   pub reached_nsecs : (o : Option Kinds) → IsReached z name o → owner_nsecs z o ≡ owned_records z name 47
@@ -283,15 +283,15 @@ module _ (z : ZoneState) (ns : List NsecState) (whole : IsWhole z ns) (name : Li
       node_asked z name 43 m h.1 47
       ∙ (sym (ap (λ (g : Region). if_within g (asked_records z name 47)) h.1.region) ∙ inside_is z name (asked_records z name 47) h.0)
 
-  by_first : (m : Kinds) → (ends_name name z.apex ≡ true) × ReachesNode z 43 name m → (rs : List Record) → AllByRecursion (IsOwn name 47) rs → first_covering rs (at_places z.records (kind_places 46 m)) ≡ head_rrsigs z rs
-  by_first m h [] w = refl
-  by_first m h (r ∷ rs) w = ap (covering r) (same_reached z ns whole name r.owner (same_back r.owner name w.0.owner) m h.0 h.1)
+  pub by_first : (t : ℕ) (m : Kinds) → ends_name name z.apex ≡ true → ReachesNode z t name m → (u : ℕ) (rs : List Record) → AllByRecursion (IsOwn name u) rs → first_covering rs (at_places z.records (kind_places 46 m)) ≡ head_rrsigs z rs
+  by_first t m i h u [] w = refl
+  by_first t m i h u (r ∷ rs) w = ap (covering r) (same_reached z ns whole name r.owner (same_back r.owner name w.0.owner) t m i h)
 
   pub reached_rrsigs : (o : Option Kinds) → IsReached z name o → owner_rrsigs z o ≡ head_rrsigs z (owned_records z name 47)
   reached_rrsigs None h = sym (ap (head_rrsigs z) (h 47))
   reached_rrsigs (Some m) h =
       let k = reached_nsecs (Some m) h in
-      ap (λ (l : List Record). first_covering l (at_places z.records (kind_places 46 m))) k ∙ by_first m h (owned_records z name 47) (owned_own z name)
+      ap (λ (l : List Record). first_covering l (at_places z.records (kind_places 46 m))) k ∙ by_first 43 m h.0 h.1 47 (owned_records z name 47) (owned_own z name)
 
 -- an NSEC's owner is in the zone
 pub owner_inside : (z : ZoneState) (ns : List NsecState) → IsWhole z ns → (n : NsecState) → Contains ns n → ends_name n.owner z.apex ≡ true

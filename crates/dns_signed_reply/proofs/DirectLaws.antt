@@ -19,7 +19,7 @@ use Rattle.dns_zone_tree.specs.declared.kinds.Kinds.{Kinds}
 use Rattle.dns_denial.specs.Signed.{is_beside}
 use Rattle.dns_denial.proofs.NameLaws.{same_back, same_trans}
 use Rattle.dns_name_server.specs.NameServerReplies.{name_server_reply, reply_from}
-use Rattle.dns_name_server.specs.Steps.{followed_alias, head_of}
+use Rattle.dns_name_server.specs.Steps.{followed_alias}
 use Rattle.dns_name_server.proofs.StepLaws.{own_found, own_records, reply_on}
 use Rattle.dns_signed_zone.specs.SignedZones.{SignedState}
 use Rattle.dns_signed_reply.specs.DirectReplies.{IsDirect, head_rrsigs}
@@ -118,7 +118,7 @@ module _ (s : SignedState) (q : Question) (m : Kinds) (h : ReachesNode s.zone q.
   parts : (nat_eq q.qtype 5 ≡ false) × ((nat_eq q.qtype 46 ≡ false) × (nat_eq q.qtype 255 ≡ false))
   parts = none_of_three (nat_eq q.qtype 5) (nat_eq q.qtype 46) (nat_eq q.qtype 255) d.plain
 
-  own_given : AllByRecursion (IsOwn q.qname q.qtype) given
+  pub own_given : AllByRecursion (IsOwn q.qname q.qtype) given
   own_given =
       all_own q.qname q.qtype parts.1.1 given
       (subst (λ (l : List Record). AllByRecursion (λ (r : Record). is_asked q.qname q.qtype r ≡ true) l) (sym (node_asked s.zone q.qname q.qtype m h q.qtype)) (all_kept (is_asked q.qname q.qtype) s.zone.records))
@@ -159,15 +159,3 @@ module _ (s : SignedState) (q : Question) (m : Kinds) (h : ReachesNode s.zone q.
 pub head_lawful : (z : ZoneState) → AreLawful z.records → (rs : List Record) → AreLawful (head_rrsigs z rs)
 head_lawful z h [] = tt
 head_lawful z h (r ∷ rs) = of_lawful z h [] r
-
--- ---- the first of them
-
-pub head_some : (z : ZoneState) (rs : List Record) (r : Record) → Some r ≡ head_of rs → head_rrsigs z (r ∷ []) ≡ head_rrsigs z rs
-head_some z [] r e = absurd (cc)
-head_some z (x ∷ rs) r e =
-    let k : r ≡ x = cc in
-    ap (λ (y : Record). head_rrsigs z (y ∷ [])) k
-
-pub head_none : (z : ZoneState) (rs : List Record) → None ≡ head_of rs → [] ≡ head_rrsigs z rs
-head_none z [] e = refl
-head_none z (x ∷ rs) e = absurd (cc)

@@ -1,38 +1,33 @@
 //! The reply that a name doesn't exist, and no wildcard stands for it: the records are written from the zone, without copies.
 
-ghost use Rattle.std.specs.Prelude.{◌≡◌, ◌++◌, ◌∷◌, [], ℕ, false, map, IfOk, IsTrue, OnOk, Some};
+ghost use Rattle.std.specs.Prelude.{◌≡◌, ◌++◌, ◌∷◌, [], ℕ, false, map, IfOk, IsTrue, OnOk};
 ghost use Rattle.std.specs.List.{Contains, flat_map};
 ghost use Rattle.std.specs.Option.{option_copied};
 ghost use Rattle.dns_name.specs.Canonical.{same_name};
 ghost use Rattle.dns_base.specs.Builds.{Builds, unlimited};
-ghost use Rattle.dns_base.specs.Records.{IsLawful, record_of};
+ghost use Rattle.dns_base.specs.Records.{record_of};
 ghost use Rattle.dns_message.specs.declared.question.Question.{Question};
 ghost use Rattle.dns_route.specs.Routes.{ends_name};
-ghost use Rattle.dns_zone.specs.Owned.{AreLawful};
-ghost use Rattle.dns_zone.specs.Places.{at_places};
 ghost use Rattle.dns_zone.specs.ZoneReply.{authoritative, exists};
 ghost use Rattle.dns_zone.specs.ZoneTurns.{zone_message};
-ghost use Rattle.dns_zone_tree.specs.Kinds.{places_of};
 ghost use Rattle.dns_zone_tree.specs.Wildcards.{wildcard};
 ghost use Rattle.dns_denial.specs.Denials.{IsAnswered};
 ghost use Rattle.dns_name_server.specs.NameServerReplies.{name_server_reply};
-ghost use Rattle.dns_signed_reply.specs.DirectReplies.{AreOwners, IsAbsent, IsReached, absent_authority, covering, head_rrsigs, negatives, owner_nsecs, owner_rrsigs};
+ghost use Rattle.dns_signed_reply.specs.DirectReplies.{AreOwners, IsAbsent, IsReached, absent_authority, head_rrsigs, negatives, owner_nsecs, owner_rrsigs};
 ghost use Rattle.dns_signed_reply.specs.PlainReplies.{said};
-ghost use Rattle.dns_signed_reply.specs.SignedReplies.{as_room, do_reply, nearest, timed};
+ghost use Rattle.dns_signed_reply.specs.SignedReplies.{as_room, do_reply, nearest};
 
+use crate::placed::write_kind_rrsigs;
 use crate::plain::{PlainReply, authoritative};
-use crate::records::{DS, first_of};
+use crate::records::DS;
 use crate::reply::{add_written, built};
-use crate::rrsigs::{add_signatures, is_signature, timed};
-use dns_base::{AdditionalBuilder, Message, NameRef, PushError, Rcode, Record, WireRecords};
+use crate::rrsigs::add_signatures;
+use dns_base::{AdditionalBuilder, Message, NameRef, PushError, Rcode, WireRecords};
 use dns_denial::Nsec;
 use dns_name::OutOfMemory;
 use dns_signed_zone::SignedZone;
-use dns_zone_tree::{Kinds, TypedPlace, Walk, ZoneTree};
+use dns_zone_tree::{Kinds, Walk, ZoneTree};
 use std::alloc::Global;
-
-/// The type of RRSIG records.
-const RRSIG: u16 = 46;
 
 /// The type of NSEC records.
 const NSEC: u16 = 47;
@@ -43,96 +38,6 @@ const NSEC: u16 = 47;
 struct Owners<'a> {
     name: Option<&'a Kinds>,
     wildcard: Option<&'a Kinds>,
-}
-
-/// Whether an RRSIG has the TTL of a record.
-fn has_ttl(signed: &Record, signature: &Record) -> bool
-    ensures { IsTrue result → signature.now.ttl ≡ signed.now.ttl }
-{
-    signature.ttl == signed.ttl
-}
-
-/// Adds a copy of an RRSIG with the TTL of a record.
-fn write_copy(
-    alloc: Global,
-    signed: &Record,
-    signature: &Record,
-    into: &mut WireRecords,
-) -> Result<(), OutOfMemory>
-    requires { IsLawful signature.now.rdata }
-    ensures { OnOk result (into.new ≡ into.old ++ record_of (timed signed.now signature.now) ∷ []) }
-{
-    let copy = timed(alloc, signed, signature)?;
-    into.push(alloc, &copy)?;
-    Ok(())
-}
-
-/// Adds an RRSIG with the TTL of a record.
-fn write_timed(
-    alloc: Global,
-    signed: &Record,
-    signature: &Record,
-    into: &mut WireRecords,
-) -> Result<(), OutOfMemory>
-    requires { IsLawful signature.now.rdata }
-    ensures { OnOk result (into.new ≡ into.old ++ record_of (timed signed.now signature.now) ∷ []) }
-{
-    if has_ttl(signed, signature) {
-        into.push(alloc, signature)?;
-        return Ok(());
-    }
-    write_copy(alloc, signed, signature, into)
-}
-
-/// Adds an RRSIG with the TTL of a record, if it covers that record's type.
-fn write_covering(
-    alloc: Global,
-    signed: &Record,
-    signature: &Record,
-    into: &mut WireRecords,
-) -> Result<(), OutOfMemory>
-    requires { IsLawful signature.now.rdata }
-    ensures { OnOk result (into.new ≡ into.old ++ map record_of (covering signed.now (signature.now ∷ []))) }
-{
-    if is_signature(signature, signed.rdata.rtype().to_int()) {
-        return write_timed(alloc, signed, signature, into);
-    }
-    Ok(())
-}
-
-/// Adds the RRSIG at a place with the TTL of a record, if there is one, and it covers that record's type.
-fn write_placed(
-    alloc: Global,
-    records: &[Record],
-    kind: &TypedPlace,
-    signed: &Record,
-    into: &mut WireRecords,
-) -> Result<(), OutOfMemory>
-    requires { AreLawful records.now }
-    ensures { OnOk result (into.new ≡ into.old
-        ++ map record_of (covering signed.now (at_places records.now (places_of 46 (kind.now ∷ []))))) }
-{
-    match kind.record(records, RRSIG) {
-        Some(signature) => write_covering(alloc, signed, signature, into),
-        None => Ok(()),
-    }
-}
-
-/// Adds those of the RRSIGs at places that cover a record's type, with its TTL.
-fn write_all_placed(
-    alloc: Global,
-    records: &[Record],
-    kinds: &[TypedPlace],
-    signed: &Record,
-    into: &mut WireRecords,
-) -> Result<(), OutOfMemory>
-    requires { AreLawful records.now }
-    ensures { OnOk result (into.new ≡ into.old ++ map record_of (covering signed.now (at_places records.now (places_of 46 kinds.now)))) }
-{
-    'each: for kind in kinds {
-        write_placed(alloc, records, kind, signed, into)?;
-    }
-    Ok(())
 }
 
 /// Adds the NSEC records of an owner, if there is one, given the places of its records.
@@ -150,23 +55,6 @@ fn write_nsecs(
     }
 }
 
-/// Adds the RRSIGs of the NSEC records among an owner's records, given their places.
-fn write_kind_rrsigs(
-    zone: &ZoneTree,
-    alloc: Global,
-    kinds: &Kinds,
-    into: &mut WireRecords,
-) -> Result<(), OutOfMemory>
-    ensures { OnOk result (into.new ≡ into.old ++ map record_of (owner_rrsigs zone.now (Some kinds.now))) }
-{
-    let records = zone.records();
-    let places = kinds.as_slice();
-    match first_of(records, places, NSEC) {
-        Some(first) => write_all_placed(alloc, records, places, first, into),
-        None => Ok(()),
-    }
-}
-
 /// Adds the RRSIGs of the NSEC records of an owner, if there is one.
 fn write_rrsigs(
     zone: &ZoneTree,
@@ -177,7 +65,7 @@ fn write_rrsigs(
     ensures { OnOk result (into.new ≡ into.old ++ map record_of (owner_rrsigs zone.now (option_copied owner.entry))) }
 {
     match owner {
-        Some(kinds) => write_kind_rrsigs(zone, alloc, kinds, into),
+        Some(kinds) => write_kind_rrsigs(zone, alloc, kinds, NSEC, into),
         None => Ok(()),
     }
 }

@@ -40,6 +40,7 @@ mod denials;
 mod direct;
 mod laws;
 mod names;
+mod placed;
 mod plain;
 mod records;
 mod reply;

@@ -10,7 +10,7 @@ use Rattle.dns_denial.specs.Signed.{is_signature}
 use Rattle.dns_signed_reply.specs.DirectReplies.{covering}
 use Rattle.dns_signed_reply.specs.SignedReplies.{timed}
 use Rattle.dns_signed_reply.proofs.LoopLaws.{all_added, kept_joined, kinds_joined, one_more, written_joined}
-use Rattle.dns_signed_reply.proofs.absent.write_all_placed.Goals as goal
+use Rattle.dns_signed_reply.proofs.placed.write_all_placed.Goals as goal
 
 -- the RRSIGs at places that cover the type of a record, in wire form
 abbrev wired : List Record → Record → List TypedPlace → List ResourceRecord

@@ -1,6 +1,6 @@
 use Rattle.std.proofs.Common.{◌∷◌, [], ◌++◌, ap, ◌∙◌}
 use Rattle.dns_base.specs.Records.{record_of}
-use Rattle.dns_signed_reply.proofs.absent.write_timed.Goals as goal
+use Rattle.dns_signed_reply.proofs.placed.write_timed.Goals as goal
 
 pub returns-then-has_ttl : goal.returns-then-has_ttl
 returns-then-has_ttl c =

@@ -4,7 +4,7 @@ use Rattle.dns_message.specs.declared.record.Record.{Record}
 use Rattle.dns_zone_tree.proofs.KeptLaws.{on_ok}
 use Rattle.dns_signed_reply.specs.DirectReplies.{covering}
 use Rattle.dns_signed_reply.proofs.LoopLaws.{put_none}
-use Rattle.dns_signed_reply.proofs.absent.write_placed.Goals as goal
+use Rattle.dns_signed_reply.proofs.placed.write_placed.Goals as goal
 
 pub write_covering-requires : goal.write_covering-requires
 write_covering-requires c = c.in-Some.ensures.lawful c.requires

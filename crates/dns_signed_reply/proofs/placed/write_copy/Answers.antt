@@ -1,7 +1,7 @@
 use Rattle.std.proofs.Common.{◌∷◌, [], ◌++◌, ap, sym, subst, ◌∙◌}
 use Rattle.dns_base.specs.Records.{IsLawful, record_of}
 use Rattle.dns_message.specs.declared.record.Record.{Record}
-use Rattle.dns_signed_reply.proofs.absent.write_copy.Goals as goal
+use Rattle.dns_signed_reply.proofs.placed.write_copy.Goals as goal
 
 pub push-requires : goal.push-requires
 push-requires c = subst (λ (r : Record). IsLawful r.rdata) (sym c.in_ok-copy.ensures) c.requires

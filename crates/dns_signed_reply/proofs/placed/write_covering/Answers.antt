@@ -5,7 +5,7 @@ use Rattle.dns_zone_tree.proofs.KeptLaws.{on_ok}
 use Rattle.dns_denial.specs.Signed.{is_signature}
 use Rattle.dns_signed_reply.specs.SignedReplies.{timed}
 use Rattle.dns_signed_reply.proofs.LoopLaws.{none_kept, one_kept, put_none}
-use Rattle.dns_signed_reply.proofs.absent.write_covering.Goals as goal
+use Rattle.dns_signed_reply.proofs.placed.write_covering.Goals as goal
 
 pub returns-then-is_signature : goal.returns-then-is_signature
 returns-then-is_signature c =
