@@ -44,8 +44,8 @@ IsHeaded o rs n = (r : Record) → Some r ≡ head_record rs n.kinds.places.item
 abbrev pub IsOwnedBy : List Record → Node → List (List ℕ) → Type 0
 IsOwnedBy rs n name = (r : Record) × (Some r ≡ head_record rs n.kinds.places.items) × (same_name r.owner name ≡ true)
 
--- records within an apex that aren't long, their index, the places of the apex's records, the negative SOA record, also in wire form,
--- referrals, and whether the keys of nodes were compared with the owners of their records
+-- Records within an apex that aren't long, their index, and the places of the apex's records. The negative SOA record, also in wire
+-- form, and referrals. Whether the keys of nodes were compared with the owners of their records.
 pub record IsTree (apex : List (List ℕ)) (rs : List Record) (n : Names) (top : Kinds) (negative : Record)
     (denial : List ResourceRecord) (referrals : List Referral) (headed : Bool) : Type 0 where
   pub lawful : AreLawful rs
