@@ -19,7 +19,7 @@ use Rattle.dns_zone_tree.specs.declared.kinds.Kinds.{Kinds}
 use Rattle.dns_denial.specs.Signed.{is_beside}
 use Rattle.dns_denial.proofs.NameLaws.{same_back, same_trans}
 use Rattle.dns_name_server.specs.NameServerReplies.{name_server_reply, reply_from}
-use Rattle.dns_name_server.specs.Steps.{followed_alias, head_of}
+use Rattle.dns_name_server.specs.Steps.{followed_alias}
 use Rattle.dns_name_server.proofs.StepLaws.{own_found, own_records, reply_on}
 use Rattle.dns_signed_zone.specs.SignedZones.{SignedState}
 use Rattle.dns_signed_reply.specs.DirectReplies.{IsDirect, head_rrsigs}
@@ -38,22 +38,22 @@ none_of_three false true c h = absurd (cc)
 none_of_three false false true h = absurd (cc)
 none_of_three false false false h = (refl, (refl, refl))
 
-or_true : (b : Bool) → (b || true) ≡ true
+pub or_true : (b : Bool) → (b || true) ≡ true
 or_true true = refl
 or_true false = refl
 
-none_either : {A : Type 0} (b : Bool) (x : A) → x ≡ (if b then x else x)
+pub none_either : {A : Type 0} (b : Bool) (x : A) → x ≡ (if b then x else x)
 none_either true x = refl
 none_either false x = refl
 
-equal_of : (a t : ℕ) → nat_eq a t ≡ true → a ≡ t
+pub equal_of : (a t : ℕ) → nat_eq a t ≡ true → a ≡ t
 equal_of a t h = grind (arith, nat_tests)
 
 equal_to : (a b t : ℕ) → a ≡ t → b ≡ t → nat_eq a b ≡ true
 equal_to a b t h k = grind (arith, nat_tests)
 
 -- what a filter keeps passes its test
-all_kept : (p : Record → Bool) (rs : List Record) → AllByRecursion (λ (r : Record). p r ≡ true) (filter p rs)
+pub all_kept : (p : Record → Bool) (rs : List Record) → AllByRecursion (λ (r : Record). p r ≡ true) (filter p rs)
 all_kept p [] = tt
 all_kept p (r ∷ rs) = by_test (p r) refl (all_kept p rs)
   where
@@ -64,7 +64,7 @@ all_kept p (r ∷ rs) = by_test (p r) refl (all_kept p rs)
 -- ---- records of one RRset
 
 -- a record of a name, of a type
-record IsOwn (name : List (List ℕ)) (t : ℕ) (r : Record) : Type 0 where
+pub record IsOwn (name : List (List ℕ)) (t : ℕ) (r : Record) : Type 0 where
   pub owner : same_name r.owner name ≡ true
   pub type_ : data_type r.rdata ≡ t
 
@@ -74,11 +74,11 @@ module _ (name : List (List ℕ)) (t : ℕ) (no_any : nat_eq t 255 ≡ false) wh
       let p = and_parts (is_owned name r) (nat_eq t 255 || is_of t r) h in
       record { owner = p.0; type_ = equal_of (data_type r.rdata) t (sym (ap (λ (b : Bool). b || is_of t r) no_any) ∙ p.1) }
 
-  all_own : (rs : List Record) → AllByRecursion (λ (r : Record). is_asked name t r ≡ true) rs → AllByRecursion (IsOwn name t) rs
+  pub all_own : (rs : List Record) → AllByRecursion (λ (r : Record). is_asked name t r ≡ true) rs → AllByRecursion (IsOwn name t) rs
   all_own [] w = tt
   all_own (r ∷ rs) w = (own_asked r w.0, all_own rs w.1)
 
-beside_own : (name : List (List ℕ)) (t : ℕ) (r s : Record) → IsOwn name t r → IsOwn name t s → is_beside r s ≡ true
+pub beside_own : (name : List (List ℕ)) (t : ℕ) (r s : Record) → IsOwn name t r → IsOwn name t s → is_beside r s ≡ true
 beside_own name t r s a b =
     λ i. same_trans r.owner name s.owner a.owner (same_back s.owner name b.owner) i && equal_to (data_type r.rdata) (data_type s.rdata) t a.type_ b.type_ i
 
@@ -118,7 +118,7 @@ module _ (s : SignedState) (q : Question) (m : Kinds) (h : ReachesNode s.zone q.
   parts : (nat_eq q.qtype 5 ≡ false) × ((nat_eq q.qtype 46 ≡ false) × (nat_eq q.qtype 255 ≡ false))
   parts = none_of_three (nat_eq q.qtype 5) (nat_eq q.qtype 46) (nat_eq q.qtype 255) d.plain
 
-  own_given : AllByRecursion (IsOwn q.qname q.qtype) given
+  pub own_given : AllByRecursion (IsOwn q.qname q.qtype) given
   own_given =
       all_own q.qname q.qtype parts.1.1 given
       (subst (λ (l : List Record). AllByRecursion (λ (r : Record). is_asked q.qname q.qtype r ≡ true) l) (sym (node_asked s.zone q.qname q.qtype m h q.qtype)) (all_kept (is_asked q.qname q.qtype) s.zone.records))
@@ -159,15 +159,3 @@ module _ (s : SignedState) (q : Question) (m : Kinds) (h : ReachesNode s.zone q.
 pub head_lawful : (z : ZoneState) → AreLawful z.records → (rs : List Record) → AreLawful (head_rrsigs z rs)
 head_lawful z h [] = tt
 head_lawful z h (r ∷ rs) = of_lawful z h [] r
-
--- ---- the first of them
-
-pub head_some : (z : ZoneState) (rs : List Record) (r : Record) → Some r ≡ head_of rs → head_rrsigs z (r ∷ []) ≡ head_rrsigs z rs
-head_some z [] r e = absurd (cc)
-head_some z (x ∷ rs) r e =
-    let k : r ≡ x = cc in
-    ap (λ (y : Record). head_rrsigs z (y ∷ [])) k
-
-pub head_none : (z : ZoneState) (rs : List Record) → None ≡ head_of rs → [] ≡ head_rrsigs z rs
-head_none z [] e = refl
-head_none z (x ∷ rs) e = absurd (cc)

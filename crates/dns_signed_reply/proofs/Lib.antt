@@ -11,3 +11,4 @@ pub mod NearLaws
 pub mod LawfulLaws
 pub mod RoomLaws
 pub mod DirectLaws
+pub mod AbsentLaws

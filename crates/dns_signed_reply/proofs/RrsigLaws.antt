@@ -12,7 +12,7 @@ use Rattle.dns_signed_reply.specs.SignedReplies.{have_signatures, reached_record
 
 -- ---- what was seen, the last first
 
-pub back : List Record → List Record → List Record
+unfoldable pub back : List Record → List Record → List Record
 back [] seen = seen
 back (x ∷ xs) seen = back xs (x ∷ seen)
 
@@ -30,7 +30,7 @@ unfolding back
 back_push [] r seen = refl
 back_push (x ∷ xs) r seen = back_push xs r (x ∷ seen)
 
-any_back : (p : Record → Bool) (xs seen : List Record) → list_any p (back xs seen) ≡ (list_any p xs || list_any p seen)
+pub any_back : (p : Record → Bool) (xs seen : List Record) → list_any p (back xs seen) ≡ (list_any p xs || list_any p seen)
 unfolding back
 any_back p [] seen = refl
 any_back p (x ∷ xs) seen = any_back p xs (x ∷ seen) ∙ or_swap (p x) (list_any p xs) (list_any p seen)

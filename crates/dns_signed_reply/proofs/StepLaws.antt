@@ -18,6 +18,7 @@ use Rattle.dns_zone_tree.specs.declared.kinds.Kinds.{Kinds}
 use Rattle.dns_name_server.specs.NameServerReplies.{behind_alias, by_region, by_target, gone_by, gone_to, is_answered, made_alias, name_server_reply, reply_from, too_long}
 use Rattle.dns_name_server.specs.Steps.{followed_alias, head_of, own_reply}
 use Rattle.dns_name_server.proofs.StepLaws.{own_alias, own_records, reply_ends, reply_on, reply_stops, wild_alias, wild_records}
+use Rattle.dns_signed_reply.specs.DirectReplies.{IsAbsent}
 use Rattle.dns_signed_reply.specs.PlainReplies.{StepsTo, alias_or, behind, by_records, said}
 use Rattle.dns_signed_reply.specs.declared.plain.PlainReply.{PlainReply}
 use Rattle.dns_signed_reply.specs.declared.step.Step.TheVariants.{End, On}
@@ -167,6 +168,11 @@ chain_first z t q given left seen name e n g s l w =
       within = ap (λ (x : List (List ℕ)). ends_name x z.apex) n ∙ w;
       so_far = (λ i. behind (g i) (asked_reply z (e i) (l i) (s i) (n i))) ∙ sym (reply_on z q.qtype 128 127 [] q.qname refl b);
     }
+
+-- the reply of a name that doesn't exist
+pub absent_is : (z : ZoneState) (q : Question) → ends_name q.qname z.apex ≡ true → IsAbsent z q.qtype q.qname → denied z 3 ≡ name_server_reply z q
+absent_is z q w h =
+    sym (reply_on z q.qtype 128 127 [] q.qname refl (ap (λ (x : Bool). x && true) w) ∙ h.nowhere (reply_from z q.qtype 127 (q.qname ∷ [])))
 
 module _ (z : ZoneState) (t : ℕ) (q : Question) (given : List Record) (left : ℕ) (seen : List (List (List ℕ))) (name : List (List ℕ)) (new : List Record) (c : IsChain z t q given left seen name) where
   pub chain_ends : (p : PlainReply) → StepsTo given new (End p) (λ go. by_region z go t name (asked_region z t name)) → behind new (said p) ≡ name_server_reply z q

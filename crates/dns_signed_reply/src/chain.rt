@@ -1,18 +1,20 @@
 //! Chains of aliases, and the reply without RRSIGs.
 
-ghost use Rattle.std.specs.Prelude.{◌≡◌, IfOk, IsTrue};
+ghost use Rattle.std.specs.Prelude.{◌≡◌, ℕ, IfOk, IsTrue};
 ghost use Rattle.std.specs.List.{list_any};
 ghost use Rattle.dns_name.specs.Canonical.{same_name};
 ghost use Rattle.dns_route.specs.Routes.{ends_name};
+ghost use Rattle.dns_zone_tree.specs.Walks.{EndsAt, ReachesNone};
 ghost use Rattle.dns_name_server.specs.NameServerReplies.{is_answered, name_server_reply};
+ghost use Rattle.dns_signed_reply.specs.DirectReplies.{IsAbsent};
 ghost use Rattle.dns_signed_reply.specs.PlainReplies.{said};
 
 use crate::plain::{PlainReply, authoritative, behind};
 use crate::step::{Step, step_of};
-use dns_base::{Name, QuestionRef};
+use dns_base::{Name, NameRef, QuestionRef};
 use dns_name::OutOfMemory;
 use dns_route::matches_are_suffixes;
-use dns_zone_tree::ZoneTree;
+use dns_zone_tree::{Walk, ZoneTree};
 use std::alloc::Global;
 
 /// How many names of a chain are asked for at most.
@@ -68,5 +70,38 @@ pub fn plain_reply(
                 name = next;
             }
         }
+    }
+}
+
+/// Whether no wildcard stands for a name that doesn't exist.
+fn has_no_wildcard(
+    zone: &ZoneTree,
+    alloc: Global,
+    name: &NameRef<'_>,
+    skipped: usize,
+) -> Result<bool, OutOfMemory>
+    ensures { (t : ℕ) → ReachesNone zone.now t name.now skipped → IfOk result (λ b. IsTrue b → IsAbsent zone.now t name.now) }
+{
+    let found = zone.wildcard(alloc, &name.behind(skipped))?;
+    match found {
+        Some(_) => Ok(false),
+        None => Ok(true),
+    }
+}
+
+/// Whether a name doesn't exist, nor a wildcard that stands for it, given what a walk to it ended at.
+pub(crate) fn is_absent(
+    zone: &ZoneTree,
+    alloc: Global,
+    name: &NameRef<'_>,
+    found: &Walk<'_>,
+) -> Result<bool, OutOfMemory>
+    ensures { (t : ℕ) → EndsAt zone.now t name.now found.now → IfOk result (λ b. IsTrue b → IsAbsent zone.now t name.now) }
+{
+    match found {
+        Walk::Missing(skipped) => has_no_wildcard(zone, alloc, name, *skipped),
+        Walk::Node(_) => Ok(false),
+        Walk::Cut(_) => Ok(false),
+        Walk::Dname(_) => Ok(false),
     }
 }

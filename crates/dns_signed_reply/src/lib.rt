@@ -31,14 +31,16 @@
 //!
 //! How often the zone is walked and how often records are copied. By reading the code, with DO it is walked once for each name
 //! of a chain of aliases and once more for its denial. It is also walked once for each RRset and each NSEC record that is
-//! given.
+//! given. For a name error it is walked once to the name and once to the owner of each NSEC.
 #![tactic(auto)]
 
+mod absent;
 mod chain;
 mod denials;
 mod direct;
 mod laws;
 mod names;
+mod placed;
 mod plain;
 mod records;
 mod reply;

@@ -12,7 +12,8 @@ ghost use Rattle.dns_name_server.specs.Steps.{wire_message};
 ghost use Rattle.dns_signed_reply.specs.SignedReplies.{as_room, asks_do, denials, do_reply, ds_of, secure_reply};
 ghost use Rattle.dns_signed_reply.specs.PlainReplies.{AreAllLawful, keeps_room, said};
 
-use crate::chain::plain_reply;
+use crate::absent::absent_reply;
+use crate::chain::{is_absent, plain_reply};
 use crate::denials::denials;
 use crate::direct::{direct_reply, is_direct};
 use crate::plain::PlainReply;
@@ -261,14 +262,19 @@ fn with_signatures(
 {
     let tree = zone.zone();
     let rtype = question.qtype().to_int();
-    let name = question.qname().to_name(alloc)?;
-    let found = tree.walk(alloc, &name.for_ref(), rtype)?;
+    let copy = question.qname().to_name(alloc)?;
+    let name = copy.for_ref();
+    let found = tree.walk(alloc, &name, rtype)?;
     if let Walk::Node(kinds) = &found {
         if is_direct(kinds, rtype) {
             return direct_reply(zone, alloc, query, kinds, rtype);
         }
     }
-    walked_reply(zone, alloc, query, question, &name.for_ref(), &found, room)
+    let absent = is_absent(tree, alloc, &name, &found)?;
+    if absent {
+        return absent_reply(zone, alloc, query, &name, rtype);
+    }
+    walked_reply(zone, alloc, query, question, &name, &found, room)
 }
 
 /// The reply of a signed zone to a question for a name at or below its apex, as it is built (RFC 4035, section 3.1). The RRSIGs

@@ -49,7 +49,7 @@ fn type_covered(rdata: &RecordData) -> u16
 }
 
 /// Whether a record is an RRSIG that covers a type.
-fn is_signature(resource: &Record, rtype: u16) -> bool
+pub(crate) fn is_signature(resource: &Record, rtype: u16) -> bool
     ensures { result ≡ is_signature rtype resource.now }
 {
     resource.rdata.rtype().to_int() == RRSIG && type_covered(&resource.rdata) == rtype
@@ -63,7 +63,11 @@ fn have_signatures(records: &[Record], owner: &Name) -> bool
 }
 
 /// An RRSIG with the TTL of a record.
-fn timed(alloc: Global, signed: &Record, signature: &Record) -> Result<Record, OutOfMemory>
+pub(crate) fn timed(
+    alloc: Global,
+    signed: &Record,
+    signature: &Record,
+) -> Result<Record, OutOfMemory>
     ensures { IfOk result (λ r. r ≡ timed signed.now signature.now) }
 {
     let mut copy = signature.try_clone(alloc)?;

@@ -12,3 +12,4 @@ pub mod HostLaws
 pub mod WireLaws
 pub mod ReferralLaws
 pub mod StarLaws
+pub mod HeadLaws

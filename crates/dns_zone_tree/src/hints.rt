@@ -1,48 +1,95 @@
-//! Where names of an index are looked for first.
+//! Where names that own records are looked for first.
 //!
-//! A hint is a place that may be that of a key's node. It says nothing of itself: whoever takes one compares the key that stands at
-//! the place. What isn't found so is searched for.
+//! A hint is a place that may be that of a name's node. It says nothing of itself: whoever takes one compares the owner of the records
+//! that the node has. What isn't found so is searched for.
 
-use crate::names::{Node, key_of};
+use crate::kinds::first_record;
+use crate::names::Node;
+use dns_base::Record;
 use dns_name::OutOfMemory;
 use std::alloc::Global;
 
-/// How many places in a row may have the hint of a key.
+/// How many places in a row may have the hint of a name.
 pub(crate) const PROBES: usize = 8;
 
 /// No hint.
 const NONE: u32 = 4294967295;
 
-/// A table of the places of nodes, twice as long as there are nodes, by the hash of their keys.
+/// How many nodes have hints that show eight bits of the hash of their names.
+const MARKED: usize = 16777215;
+
+/// A table of the places of nodes, twice as long as there are nodes, by the hash of their names. In the lowest bits of each stand
+/// bits of the hash, unless there are too many nodes. So a hint for another name is mostly known without a look at its node.
 #[derive(Drop)]
 pub(crate) struct Hints {
     places: Vec<u32>,
+    bits: u32,
 }
 
-/// A hash of octets (FNV-1a).
+/// Where the hints of a name begin, and the bits of its hash that they show.
+#[derive(Clone, Copy)]
+pub(crate) struct Look {
+    start: usize,
+    mark: u32,
+}
+
+/// What a table has at a place.
+#[derive(Clone, Copy)]
+pub(crate) enum Hint {
+    /// No hint, and none after it.
+    None,
+    /// That of another name.
+    Other,
+    /// The place of a node.
+    Node(usize),
+}
+
+/// A hash of octets in lower case (FNV-1a, mixed once more).
 fn hash_of(octets: &[u8]) -> u32 {
     let mut hash = 2166136261u32;
     'octets: for octet in octets {
-        hash = (hash ^ *octet as u32).wrapping_mul(16777619);
+        hash = (hash ^ octet.to_ascii_lowercase() as u32).wrapping_mul(16777619);
     }
-    hash ^ (hash >> 15)
+    let mixed = (hash ^ (hash >> 15)).wrapping_mul(2246822507);
+    mixed ^ (mixed >> 13)
 }
 
-/// Where the hints of a key begin in a table of a length.
-fn start_of(key: &[u8], length: usize) -> usize {
-    (hash_of(key) as usize)
-        .checked_rem(length.saturating_sub(PROBES))
-        .unwrap_or(0)
+/// How many bits of the hash the hints of that many nodes show.
+fn bits_for(count: usize) -> u32 {
+    if count < MARKED {
+        return 8;
+    }
+    0
 }
 
-/// Writes the hint of a key where it has room.
-fn write_hint(places: &mut Vec<u32>, key: &[u8], place: usize) {
-    let start = start_of(key, places.len());
+/// Where the hints of a name's octets begin in a table of a length, and what of their hash they show.
+fn look_for(octets: &[u8], length: usize, bits: u32) -> Look {
+    let hash = hash_of(octets);
+    let rows = length.saturating_sub(PROBES) as u64;
+    let start = (hash as u64).wrapping_mul(rows) >> 32;
+    let mark = if bits == 8 { hash & 255 } else { 0 };
+    Look {
+        start: start as usize,
+        mark,
+    }
+}
+
+/// The hint of the node at a place.
+fn hint_of(place: usize, look: Look, bits: u32) -> u32 {
+    let place = u32::try_from(place).unwrap_or(NONE);
+    if bits == 8 {
+        return place << 8 | look.mark;
+    }
+    place
+}
+
+/// Writes the hint of a name where it has room.
+fn write_hint(places: &mut Vec<u32>, look: Look, hint: u32) {
     'probes: for probe in 0..PROBES {
-        let at = start.saturating_add(probe);
+        let at = look.start.saturating_add(probe);
         if at < places.len() {
             if places[at] == NONE {
-                places[at] = u32::try_from(place).unwrap_or(NONE);
+                places[at] = hint;
                 return;
             }
         }
@@ -54,29 +101,46 @@ impl Hints {
     pub(crate) fn new(alloc: Global) -> Hints {
         Hints {
             places: Vec::new(alloc),
+            bits: 0,
         }
     }
 
-    /// Those of the nodes of keys.
-    pub(crate) fn of(alloc: Global, octets: &[u8], nodes: &[Node]) -> Result<Hints, OutOfMemory> {
+    /// Those of nodes, by the owners of their records.
+    pub(crate) fn of(
+        alloc: Global,
+        records: &[Record],
+        nodes: &[Node],
+    ) -> Result<Hints, OutOfMemory> {
         let size = nodes.len().saturating_mul(2).saturating_add(PROBES);
+        let bits = bits_for(nodes.len());
         let mut places = vec![in alloc; NONE; size]?;
         'each: for (place, node) in nodes.iter().enumerate() {
-            write_hint(&mut places, key_of(octets, node.span), place);
+            if let Some(first) = first_record(records, node.kinds.as_slice()) {
+                let look = look_for(first.owner.as_slice(), size, bits);
+                write_hint(&mut places, look, hint_of(place, look, bits));
+            }
         }
-        Ok(Hints { places })
+        Ok(Hints { places, bits })
     }
 
-    /// Where the hints of a key begin.
-    pub(crate) fn start(&self, key: &[u8]) -> usize {
-        start_of(key, self.places.len())
+    /// Where the hints of a name's octets are looked for.
+    pub(crate) fn look(&self, octets: &[u8]) -> Look {
+        look_for(octets, self.places.len(), self.bits)
     }
 
-    /// The hint at a place of the table, if there is one.
-    pub(crate) fn get(&self, at: usize) -> Option<usize> {
-        match self.places.get(at) {
-            Some(place) if *place != NONE => Some(*place as usize),
-            _ => None,
+    /// The hint at one of the places that a name's may have.
+    pub(crate) fn get(&self, look: Look, probe: usize) -> Hint {
+        match self.places.get(look.start.saturating_add(probe)) {
+            Some(hint) if *hint != NONE => {
+                if self.bits == 0 {
+                    return Hint::Node(*hint as usize);
+                }
+                if *hint & 255 == look.mark {
+                    return Hint::Node((*hint >> 8) as usize);
+                }
+                Hint::Other
+            }
+            _ => Hint::None,
         }
     }
 }

@@ -11,7 +11,7 @@ ghost use Rattle.dns_zone_tree.specs.Nodes.{IsJoined, is_last, is_lower, key_of}
 ghost use Rattle.dns_zone_tree.specs.TreeErrors.{Makes, size_error, size_limit};
 
 use crate::error::TreeError;
-use crate::hints::Hints;
+use crate::guide::Guide;
 use crate::kinds::{Kinds, TypedPlace};
 use crate::names::{Keyed, Names, Node, Span, has_star, key_of};
 use dns_base::Record;
@@ -181,7 +181,7 @@ fn indexed(alloc: Global, keys: Keys) -> Result<Names, OutOfMemory>
         octets,
         nodes,
         none,
-        hints: Hints::new(alloc),
+        guide: Guide::new(alloc),
         stars,
     })
 }
@@ -196,6 +196,6 @@ pub(crate) fn names_of(alloc: Global, records: &[Record]) -> Result<Names, TreeE
     }
     let keys = keys_of(alloc, records)?;
     let mut names = indexed(alloc, keys)?;
-    names.hint(alloc)?;
+    names.make_guide(alloc)?;
     Ok(names)
 }

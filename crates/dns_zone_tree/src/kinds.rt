@@ -6,7 +6,7 @@ ghost use Rattle.std.specs.Option.{option_copied};
 ghost use Rattle.dns_base.specs.Records.{IsLawful};
 ghost use Rattle.dns_zone.specs.Owned.{AreLawful};
 ghost use Rattle.dns_zone.specs.Places.{at_places};
-ghost use Rattle.dns_zone_tree.specs.TypedPlaces.{is_kind, places_of};
+ghost use Rattle.dns_zone_tree.specs.TypedPlaces.{head_record, is_kind, places_of};
 
 use crate::places::Places;
 use dns_base::{Record, Rtype};
@@ -30,6 +30,16 @@ pub fn record_at(records: &[Record], place: usize) -> Option<&Record>
     records.get(place)
 }
 
+/// The record at the first of some places, if there is one.
+pub(crate) fn first_record<'a>(records: &'a [Record], kinds: &[TypedPlace]) -> Option<&'a Record>
+    ensures { option_copied result ≡ head_record records.now kinds.now }
+{
+    match kinds.first() {
+        Some(kind) => record_at(records, kind.place()),
+        None => None,
+    }
+}
+
 impl TypedPlace {
     /// The place of a record of a type.
     pub(crate) fn new(rtype: u16, place: u32) -> TypedPlace
@@ -46,7 +56,9 @@ impl TypedPlace {
     }
 
     /// The place.
-    pub(crate) fn place(&self) -> usize {
+    pub(crate) fn place(&self) -> usize
+        ensures { result ≡ self.now.place }
+    {
         self.place as usize
     }
 

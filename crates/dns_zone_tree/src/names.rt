@@ -1,13 +1,12 @@
 //! The index of a zone: the names that own records, in the canonical order.
 
-ghost use Rattle.std.specs.Prelude.{◌≡◌, ℕ, List, true, false, IfSome, Some, None};
+ghost use Rattle.std.specs.Prelude.{◌≡◌, ℕ, List, true, false, IsTrue, Some, None};
 ghost use Rattle.std.specs.List.{slice_get};
-ghost use Rattle.std.specs.List.Sorted.{IsPartitionPoint};
-ghost use Rattle.std.specs.Option.{option_copied};
+ghost use Rattle.std.specs.Option.{option_copied, option_map_or};
 ghost use Rattle.std.specs.Str.{bytes_eq};
-ghost use Rattle.dns_zone_tree.specs.Nodes.{AreOrdered, has_star, is_before, key_of, kinds_by, kinds_under};
+ghost use Rattle.dns_zone_tree.specs.Nodes.{AreOrdered, IsCountBefore, has_star, is_before, key_of, kinds_by, kinds_under};
 
-use crate::hints::{Hints, PROBES};
+use crate::guide::Guide;
 use crate::kinds::{Kinds, TypedPlace};
 use dns_name::OutOfMemory;
 use std::alloc::Global;
@@ -40,7 +39,7 @@ pub(crate) struct Names {
     pub(crate) octets: Vec<u8>,
     pub(crate) nodes: Vec<Node>,
     pub(crate) none: Kinds,
-    pub(crate) hints: Hints,
+    pub(crate) guide: Guide,
     pub(crate) stars: bool,
 }
 
@@ -72,18 +71,10 @@ pub(crate) fn has_star(octets: &[u8]) -> bool
 }
 
 /// Whether a node comes before a key.
-fn is_before(octets: &[u8], node: &Node, key: &[u8]) -> bool
+pub(crate) fn is_before(octets: &[u8], node: &Node, key: &[u8]) -> bool
     ensures { result ≡ is_before octets.now key.now node.now }
 {
     key_of(octets, node.span).cmp(key).is_lt()
-}
-
-/// How many nodes come before a key.
-fn count_before(octets: &[u8], nodes: &[Node], key: &[u8]) -> usize
-    requires { AreOrdered octets.now nodes.now }
-    ensures { IsPartitionPoint (λ n. is_before octets.now key.now n ≡ true) (λ n. is_before octets.now key.now n ≡ false) nodes.now result }
-{
-    nodes.partition_point(|node| is_before(octets, node, key))
 }
 
 /// The node at a place, if there is one.
@@ -91,6 +82,43 @@ fn node_at(nodes: &[Node], place: usize) -> Option<&Node>
     ensures { option_copied result ≡ slice_get nodes.now place }
 {
     nodes.get(place)
+}
+
+/// Whether the node at a place is there and comes before a key.
+fn is_passed(octets: &[u8], nodes: &[Node], key: &[u8], place: usize) -> bool
+    ensures { result ≡ option_map_or (is_before octets.now key.now) (slice_get nodes.now place) false }
+{
+    match node_at(nodes, place) {
+        Some(node) => is_before(octets, node, key),
+        None => false,
+    }
+}
+
+/// Whether as many nodes come before a key.
+#[tactic(auto, using(crate::proofs::SearchLaws::point_at, crate::proofs::SearchLaws::point_at_first))]
+fn is_count(octets: &[u8], nodes: &[Node], key: &[u8], count: usize) -> bool
+    requires { AreOrdered octets.now nodes.now }
+    ensures { IsTrue result → IsCountBefore octets.now key.now nodes.now count }
+{
+    if is_passed(octets, nodes, key, count) {
+        return false;
+    }
+    if count == 0 {
+        return true;
+    }
+    is_passed(octets, nodes, key, count - 1)
+}
+
+/// How many nodes come before a key. What a guide says is tried first.
+fn count_before(octets: &[u8], nodes: &[Node], guide: &Guide, key: &[u8]) -> usize
+    requires { AreOrdered octets.now nodes.now }
+    ensures { IsCountBefore octets.now key.now nodes.now result }
+{
+    let guessed = guide.count_before(octets, nodes, key);
+    if is_count(octets, nodes, key, guessed) {
+        return guessed;
+    }
+    nodes.partition_point(|node| is_before(octets, node, key))
 }
 
 /// What is kept of a key: what is there if a node's key is it, and nothing if that only begins with it, as the key of a name
@@ -108,7 +136,7 @@ fn kinds_by<'a>(own: &[u8], key: &[u8], kinds: &'a Kinds, none: &'a Kinds) -> Op
 }
 
 /// Whether a key is another one.
-fn is_key(own: &[u8], key: &[u8]) -> bool
+pub(crate) fn is_key(own: &[u8], key: &[u8]) -> bool
     ensures { result ≡ bytes_eq own.now key.now }
 {
     own == key
@@ -129,63 +157,38 @@ impl Names {
         self.stars
     }
 
-    /// Makes the hints.
-    pub(crate) fn hint(&mut self, alloc: Global) -> Result<(), OutOfMemory>
+    /// Makes the guide.
+    pub(crate) fn make_guide(&mut self, alloc: Global) -> Result<(), OutOfMemory>
         ensures { self.new ≡ self.old }
     {
-        self.hints = Hints::of(alloc, self.octets.as_slice(), self.nodes.as_slice())?;
+        self.guide = Guide::of(alloc, self.octets.as_slice(), self.nodes.as_slice())?;
         Ok(())
     }
 
-    /// What the node at a place keeps, if its key is one.
-    fn kinds_if(&self, place: usize, key: &[u8]) -> Option<&Kinds>
-        ensures { IfSome result (λ m. Some m.now ≡ kinds_under self.now key.now) }
+    /// The octets of the keys.
+    pub(crate) fn octets(&self) -> &[u8]
+        ensures { result.now ≡ self.now.octets }
     {
-        match node_at(self.nodes.as_slice(), place) {
-            Some(node) => {
-                if is_key(key_of(self.octets.as_slice(), node.span), key) {
-                    return Some(&node.kinds);
-                }
-                None
-            }
-            None => None,
-        }
+        self.octets.as_slice()
     }
 
-    /// What is kept of the name of a key, if a hint leads to its node.
-    fn hinted(&self, key: &[u8]) -> Option<&Kinds>
-        ensures { IfSome result (λ m. Some m.now ≡ kinds_under self.now key.now) }
+    /// The node at a place, if there is one.
+    pub(crate) fn node(&self, place: usize) -> Option<&Node>
+        ensures node { option_copied result ≡ slice_get self.now.nodes place }
+        ensures ordered { AreOrdered self.now.octets self.now.nodes }
     {
-        let start = self.hints.start(key);
-        'probes: for probe in 0..PROBES {
-            let Some(place) = self.hints.get(start.saturating_add(probe)) else {
-                return None;
-            };
-            if let Some(kinds) = self.kinds_if(place, key) {
-                return Some(kinds);
-            }
-        }
-        None
+        node_at(self.nodes.as_slice(), place)
     }
 
     /// What is kept of the name of a key, if it exists. The first node that doesn't come before the key says it.
-    fn searched(&self, key: &[u8]) -> Option<&Kinds>
+    pub(crate) fn kinds_at(&self, key: &[u8]) -> Option<&Kinds>
         ensures { option_copied result ≡ kinds_under self.now key.now }
     {
         let octets = self.octets.as_slice();
         let nodes = self.nodes.as_slice();
-        match node_at(nodes, count_before(octets, nodes, key)) {
+        match node_at(nodes, count_before(octets, nodes, &self.guide, key)) {
             Some(node) => kinds_by(key_of(octets, node.span), key, &node.kinds, &self.none),
             None => None,
-        }
-    }
-    /// What is kept of the name of a key, if it exists.
-    pub(crate) fn kinds_at(&self, key: &[u8]) -> Option<&Kinds>
-        ensures { option_copied result ≡ kinds_under self.now key.now }
-    {
-        match self.hinted(key) {
-            Some(kinds) => Some(kinds),
-            None => self.searched(key),
         }
     }
 }

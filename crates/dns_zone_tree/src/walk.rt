@@ -57,6 +57,9 @@ impl ZoneTree {
     ) -> Result<Option<&Kinds>, OutOfMemory>
         ensures { IfOk result (λ o. IsNode self.now name.now (option_copied o)) }
     {
+        if let Some(kinds) = self.hinted(name) {
+            return Ok(Some(kinds));
+        }
         let key = canonical_key(alloc, name)?;
         Ok(self.names.kinds_at(key.as_slice()))
     }

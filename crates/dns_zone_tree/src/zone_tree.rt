@@ -12,6 +12,7 @@ ghost use Rattle.dns_zone_tree.specs.TreeErrors.{Makes, tree_error};
 
 use crate::check::checked;
 use crate::error::TreeError;
+use crate::hints::Hints;
 use crate::kinds::Kinds;
 use crate::listing::{kinds_of, negative_of};
 use crate::names::Names;
@@ -32,6 +33,8 @@ pub struct ZoneTree {
     pub(crate) negative: Record,
     pub(crate) denial: WireRecords,
     pub(crate) referrals: Referrals,
+    pub(crate) hints: Hints,
+    pub(crate) headed: bool,
 }
 
 impl Model for ZoneTree {
@@ -42,7 +45,7 @@ impl Model for ZoneTree {
 
     ghost view = { λ z. record { apex = z.apex; records = z.records.items } };
 
-    ghost invariant = { λ z. IsTree z.apex z.records.items z.names z.top z.negative z.denial z.referrals.list.items };
+    ghost invariant = { λ z. IsTree z.apex z.records.items z.names z.top z.negative z.denial z.referrals.list.items z.headed };
 }
 
 /// A record in wire form.
@@ -80,7 +83,10 @@ fn made(
         negative,
         denial,
         referrals: Referrals::new(alloc),
+        hints: Hints::new(alloc),
+        headed: false,
     };
+    zone.head(alloc)?;
     zone.refer(alloc)?;
     Ok(zone)
 }

@@ -1,13 +1,14 @@
-use Rattle.std.proofs.Common.{◌≡◌, ℕ, List, refl, sym, subst, ◌∙◌}
+use Rattle.std.proofs.Common.{◌≡◌, ℕ, true, List, refl, sym, subst, ◌∙◌}
 use Rattle.dns_route.specs.Routes.{ends_name}
 use Rattle.dns_zone.specs.Owned.{ZoneState}
 use Rattle.dns_zone_tree.specs.Walks.{EndsAt}
 use Rattle.dns_zone_tree.specs.declared.walk.Walk.{Walk}
+use Rattle.dns_signed_reply.specs.DirectReplies.{IsAbsent}
 use Rattle.dns_signed_reply.proofs.reply.with_signatures.Goals as goal
 
 pub walk-requires : goal.walk-requires
 walk-requires c =
-    let n = c.for_ref.ensures.value ∙ (c.in_ok-name.ensures ∙ c.qname.ensures) in
+    let n = c.for_ref-name.ensures.value ∙ (c.in_ok-copy.ensures ∙ c.qname.ensures) in
     (λ i. ends_name (n i) (c.zone-tree.ensures i).apex) ∙ c.requires
 
 -- what the walk ended at
@@ -23,19 +24,33 @@ returns-then-is_direct c =
     let s = c.args.zone.now in
     let q = c.args.question.now in
     let t = c.to_int-rtype.ensures.value ∙ c.qtype.ensures in
-    let n = c.for_ref.ensures.value ∙ (c.in_ok-name.ensures ∙ c.qname.ensures) in
-    let w = ends c.zone-tree.result.now s.zone c.to_int-rtype.result c.to_int-rtype.result c.for_ref.result q.qname c.in_ok-found.found c.in_ok-found.ensures c.zone-tree.ensures refl n in
+    let n = c.for_ref-name.ensures.value ∙ (c.in_ok-copy.ensures ∙ c.qname.ensures) in
+    let w = ends c.zone-tree.result.now s.zone c.to_int-rtype.result c.to_int-rtype.result c.for_ref-name.result q.qname c.in_ok-found.found c.in_ok-found.ensures c.zone-tree.ensures refl n in
     c.direct_reply.ensures q c.args.room (sym t) c.requires (subst (EndsAt s.zone c.to_int-rtype.result q.qname) c.in-Node.is w)
+
+pub absent_reply-requires : goal.absent_reply-requires
+absent_reply-requires c =
+    let s = c.args.zone.now in
+    let n = c.for_ref-name.ensures.value ∙ (c.in_ok-copy.ensures ∙ c.qname.ensures) in
+    record {
+      inside = subst (λ (x : List (List ℕ)). ends_name x s.zone.apex ≡ true) (sym n) c.requires;
+      absent = subst (λ (z : ZoneState). IsAbsent z c.to_int-rtype.result c.for_ref-name.result) c.zone-tree.ensures (c.in_ok-absent.ensures c.to_int-rtype.result c.in_ok-found.ensures c.if-absent.true);
+    }
+
+pub returns-then-absent : goal.returns-then-absent
+returns-then-absent c =
+    let t = c.to_int-rtype.ensures.value ∙ c.qtype.ensures in
+    let n = c.for_ref-name.ensures.value ∙ (c.in_ok-copy.ensures ∙ c.qname.ensures) in
+    c.absent_reply.ensures c.args.question.now c.args.room (sym t) (sym n)
 
 pub walked_reply-requires : goal.walked_reply-requires
 walked_reply-requires c =
     let s = c.args.zone.now in
     let q = c.args.question.now in
     let t = c.to_int-rtype.ensures.value ∙ c.qtype.ensures in
-    let a = c.for_ref.ensures.value ∙ (c.in_ok-name.ensures ∙ c.qname.ensures) in
-    let b = c.for_ref-2.ensures.value ∙ (c.in_ok-name.ensures ∙ c.qname.ensures) in
+    let n = c.for_ref-name.ensures.value ∙ (c.in_ok-copy.ensures ∙ c.qname.ensures) in
     record {
       inside = c.requires;
-      named = b;
-      ends = ends c.zone-tree.result.now s.zone c.to_int-rtype.result q.qtype c.for_ref.result c.for_ref-2.result c.in_ok-found.found c.in_ok-found.ensures c.zone-tree.ensures t (a ∙ sym b);
+      named = n;
+      ends = ends c.zone-tree.result.now s.zone c.to_int-rtype.result q.qtype c.for_ref-name.result c.for_ref-name.result c.in_ok-found.found c.in_ok-found.ensures c.zone-tree.ensures t refl;
     }

@@ -15,4 +15,4 @@ returns-in_err-keys c =
 
 pub returns : goal.returns
 returns c =
-    (c.in_ok-keys.ensures.0, subst (λ (n : Names). KnowsNames n c.args.records.now) (sym c.hint.ensures) (c.in_ok-names.ensures c.args.records.now c.in_ok-keys.ensures.1))
+    (c.in_ok-keys.ensures.0, subst (λ (n : Names). KnowsNames n c.args.records.now) (sym c.make_guide.ensures) (c.in_ok-names.ensures c.args.records.now c.in_ok-keys.ensures.1))

@@ -1,5 +1,6 @@
 use Rattle.std.proofs.Common.{ap, length, map, subst, sym, ◌∙◌}
 use Rattle.std.specs.List.{filter}
+use Rattle.std.proofs.lemmas.Bool.{false≢true}
 use Rattle.dns_zone.specs.Owned.{ZoneState, is_of}
 use Rattle.dns_zone.specs.ZoneReply.{negative_soa}
 use Rattle.dns_zone.proofs.BuildLaws.{negative_lawful}
@@ -25,4 +26,5 @@ invariant_of-zone c =
       soa = sym (ap (λ l. map negative_soa (filter (is_of 6) l)) c.as_slice.ensures.value) ∙ c.in_ok-negative.ensures;
       denied = c.in_ok-denial.ensures;
       referred = subst (AreReferrals z) (sym c.new.ensures) tt;
+      heads = λ e. absurd (false≢true e);
     }

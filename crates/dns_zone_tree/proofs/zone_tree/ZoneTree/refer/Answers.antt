@@ -15,4 +15,5 @@ invariant_of-self c =
       soa = i.soa;
       denied = i.denied;
       referred = subst (λ (z : ZoneState). AreReferrals z c.in_ok-list.list.items) (sym c.self.view_is) c.in_ok-list.ensures;
+      heads = i.heads;
     }

@@ -3,7 +3,7 @@ use Rattle.dns_zone_tree.specs.Nodes.{AreOrdered, Names, key_of, kinds_among, ki
 use Rattle.dns_zone_tree.specs.declared.kinds.Kinds.{Kinds}
 use Rattle.dns_zone_tree.specs.declared.names.Node.{Node}
 use Rattle.dns_zone_tree.proofs.SearchLaws.{found_at, kept_by}
-use Rattle.dns_zone_tree.proofs.names.Names.searched.Goals as goal
+use Rattle.dns_zone_tree.proofs.names.Names.kinds_at.Goals as goal
 
 pub count_before-requires : goal.count_before-requires
 count_before-requires c =
