@@ -1,0 +1,12 @@
+pub mod PlaceLaws
+pub mod OwnerLaws
+pub mod GroupLaws
+pub mod DownLaws
+pub mod ReachLaws
+pub mod MarkLaws
+pub mod HeldLaws
+pub mod SpanLaws
+pub mod TypeLaws3
+pub mod RecordLaws
+pub mod ChainLaws3
+pub mod MadeLaws
