@@ -1,6 +1,6 @@
 //! Whether a chain of NSEC3s is whole.
 
-ghost use Rattle.std.specs.Prelude.{◌≡◌, ◌||◌, ◌&&◌, ◌<◌, ◌-◌, ◌∷◌, [], not, drop, length, map, slice_index_or, true, false, None, IfOk, IsTrue, MatchOption, MatchResult};
+ghost use Rattle.std.specs.Prelude.{◌≡◌, ◌||◌, ◌&&◌, ◌<◌, ◌-◌, ◌∷◌, [], not, drop, length, map, nat_eq, slice_index_or, true, false, None, IfOk, IsTrue, MatchOption, MatchResult};
 ghost use Rattle.std.specs.List.{Contains, list_all, list_any, position};
 ghost use Rattle.std.specs.Str.{bytes_eq};
 ghost use Rattle.dns_base.specs.Records.{data_type};
@@ -12,7 +12,7 @@ ghost use Rattle.dns_zone_tree.specs.TreeErrors.{tree_error};
 ghost use Rattle.dns_denial.specs.Chains.{has_type, is_deniable, is_record_at};
 ghost use Rattle.dns_denial.specs.Checks.{IsHeld, is_placed};
 ghost use Rattle.dns_denial.specs.Hashes.{AreSorted3};
-ghost use Rattle.dns_denial.specs.Nsec3.{IsChained3, Nsec3State, is_matched, is_unsigned};
+ghost use Rattle.dns_denial.specs.Nsec3.{IsChained3, Nsec3State, has, is_matched, is_unsigned};
 ghost use Rattle.dns_hashed_zone.specs.HashedChecks.{AreLinked3, Breaks3, IsUnlinked3, are_held, hash_after, is_held, is_met, is_there3, is_unlisted3, lists_types, zone_names};
 ghost use Rattle.dns_hashed_zone.specs.Meetings.{IsAbove, IsStanding, all_marked, is_point, is_type_listed, is_typed, marked, record_marked};
 
@@ -58,12 +58,21 @@ fn is_typed(kinds: &Kinds, cut: bool, rtype: u16) -> bool
     is_placed(kinds, rtype) && (!cut || (rtype == NS || rtype == DS))
 }
 
+/// Whether a record has the type 255, and a name for its owner.
+fn is_any_at(name: &NameRef<'_>, resource: &Record) -> bool
+    ensures { result ≡ is_record_at name.now 255 resource.now }
+{
+    resource.owner.name_eq(name) && resource.rdata.rtype().to_int() == ANY
+}
+
 /// Whether the zone has the type 255 at a name.
 fn has_any(zone: &ZoneTree, name: &NameRef<'_>, cut: bool) -> bool
     ensures { result ≡ (list_any (is_record_at name.now 255) zone.now.records && not cut) }
 {
-    !cut && zone.records().iter().any(|resource| resource.owner.name_eq(name)
-        && resource.rdata.rtype().to_int() == ANY)
+    if cut {
+        return false;
+    }
+    zone.records().iter().any(|resource| is_any_at(name, resource))
 }
 
 /// Whether the zone has a type at a name with these places.
@@ -101,12 +110,28 @@ fn are_there(zone: &ZoneTree, name: &NameRef<'_>, kinds: &Kinds, cut: bool, type
     true
 }
 
+/// Whether a type that a name has is to be listed: of a delegation point the NS and the DS alone.
+fn is_to_list(cut: bool, rtype: u16) -> bool
+    ensures { result ≡ (is_deniable rtype && (not cut || (nat_eq rtype 2 || nat_eq rtype 43))) }
+{
+    is_deniable(rtype) && (!cut || (rtype == NS || rtype == DS))
+}
+
+/// Whether an NSEC3 lists a type.
+fn lists(nsec: &Nsec3, rtype: u16) -> bool
+    ensures { result ≡ has nsec.now rtype }
+{
+    nsec.types().iter().any(|listed| rtype == *listed)
+}
+
 /// Whether a type that a name has is listed, if it is to be.
 fn is_type_listed(cut: bool, nsec: &Nsec3, rtype: u16) -> bool
     ensures { result ≡ is_type_listed cut nsec.now rtype }
 {
-    !(is_deniable(rtype) && (!cut || (rtype == NS || rtype == DS)))
-        || nsec.types().iter().any(|listed| rtype == *listed)
+    if !is_to_list(cut, rtype) {
+        return true;
+    }
+    lists(nsec, rtype)
 }
 
 /// Whether the type of the record at a place is listed, if it is to be.
