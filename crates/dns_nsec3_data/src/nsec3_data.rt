@@ -1,106 +1,159 @@
-//! NSEC3 and NSEC3PARAM records as a zone has them.
+//! NSEC3 records as a zone has them (RFC 5155, section 3).
 
-use crate::base32::octets_of;
-use dns_denial::{Hashing, HashingError, Nsec3};
-use dns_message::{Record, RecordData};
-use dns_name::{Name, OutOfMemory};
+ghost use Rattle.std.specs.Prelude.{◌≡◌, IfOk, MatchOption, MatchResult};
+ghost use Rattle.dns_zone.specs.Owned.{is_of};
+ghost use Rattle.dns_nsec3_data.specs.Nsec3Data.{AreNsec3s, IsNoNsec3, IsNsec3, Keeps3, KeepsOne3, SaysNext3, nsec3_records, owner_hash};
+
+use crate::nsec3_error::Nsec3Error;
+use crate::parameters::{Param, Parameters, parameters_in, unknown_octets};
+use dns_denial::Nsec3;
+use dns_message::Record;
+use dns_name::{Name, NameRef, OutOfMemory};
 use dns_nsec_data::types_in;
+use dns_word_values::base32_octets;
 use std::alloc::Global;
 
-/// Why the NSEC3 records of a list can't be taken as a chain.
-#[derive(Clone, Copy, Debug)]
-pub enum Nsec3Error {
-    /// How many NSEC3PARAM records there are at the apex; one is used.
-    Params(usize),
-    /// The NSEC3PARAM record has another algorithm than SHA-1, a flag, or data out of form.
-    Param,
-    /// More iterations than 100, or a salt of more than 32 octets (RFC 9276, section 3.2).
-    Hashing(HashingError),
-    /// The place in the list of the first NSEC3 record that isn't one: its owner, or its data, which has another algorithm, salt
-    /// or number of iterations than NSEC3PARAM, an unknown flag, a hash of a wrong length, or bit maps out of form.
-    Malformed(usize),
-    /// Two of them have one hash.
-    Twice,
-    OutOfMemory,
+/// The type of NSEC3 records.
+const NSEC3: u16 = 50;
+
+/// The flag Opt-Out (RFC 5155, section 3.1.2.1).
+const OPT_OUT: u8 = 1;
+
+/// The next hash and the types of an NSEC3.
+#[derive(Drop)]
+struct Next {
+    hash: [u8; 20],
+    types: Vec<u16>,
 }
 
-/// Hash parameters, and the octets behind them (RFC 5155, sections 3.2 and 4.2).
-struct Parameters<'a> {
-    flags: u8,
-    iterations: u16,
-    salt: &'a [u8],
-    left: &'a [u8],
-}
-
-/// The parameters that octets begin with; none of another algorithm than SHA-1.
-fn parameters_in(octets: &[u8]) -> Option<Parameters<'_>> {
-    if octets.len() < 5 || octets[0] != 1 {
+/// The 20 octets of a hash; none where there are fewer or more.
+fn hash_in(octets: &[u8]) -> Option<[u8; 20]>
+    ensures { MatchOption result (length octets.now ≢ 20) (λ h. h ≡ octets.now) }
+{
+    if octets.len() != 20 {
         return None;
     }
-    let rest = &octets[5..];
-    let length = octets[4] as usize;
-    if length > rest.len() {
-        return None;
-    }
-    Some(Parameters {
-        flags: octets[1],
-        iterations: 256 * octets[2] as u16 + octets[3] as u16,
-        salt: &rest[..length],
-        left: &rest[length..],
-    })
+    let mut hash = [0u8; 20];
+    hash.copy_from_slice(octets);
+    Some(hash)
 }
 
-/// The octets of data of a type like NSEC3.
-fn unknown_octets(resource: &Record) -> &[u8] {
-    match &resource.rdata {
-        RecordData::Unknown { octets, .. } => octets.as_slice(),
-        _ => &[],
-    }
-}
-
-/// The salt and the iterations of an NSEC3PARAM record; none where its data isn't that of one, or has flags.
-pub fn param_in(alloc: Global, resource: &Record) -> Result<Option<(Vec<u8>, u16)>, OutOfMemory> {
-    match parameters_in(unknown_octets(resource)) {
-        Some(found) if found.flags == 0 && found.left.is_empty() => {
-            Ok(Some((Vec::from_slice(alloc, found.salt)?, found.iterations)))
-        }
-        _ => Ok(None),
-    }
-}
-
-/// The NSEC3 of a record of a zone with this apex, salt and number of iterations; none where it isn't one.
-pub fn nsec3_in(
+/// The hash that the first label of an owner is in base 32, where the apex is behind it.
+pub fn owner_hash(
     alloc: Global,
     apex: &Name,
-    salt: &[u8],
-    iterations: u16,
+    owner: &NameRef<'_>,
+) -> Result<Option<[u8; 20]>, OutOfMemory> {
+    let mut labels = owner.labels();
+    let Some(label) = labels.next() else {
+        return Ok(None);
+    };
+    if !owner.behind(1).name_eq(&apex.for_ref()) {
+        return Ok(None);
+    }
+    match base32_octets(alloc, label)? {
+        Some(octets) => Ok(hash_in(octets.as_slice())),
+        None => Ok(None),
+    }
+}
+
+/// What the data of an NSEC3 record says behind its parameters; none where octets are no such data.
+fn next_in(alloc: Global, left: &[u8]) -> Result<Option<Next>, OutOfMemory> {
+    let [20, rest @ ..] = left else {
+        return Ok(None);
+    };
+    if rest.len() < 20 {
+        return Ok(None);
+    }
+    let Some(hash) = hash_in(&rest[..20]) else {
+        return Ok(None);
+    };
+    match types_in(alloc, &rest[20..])? {
+        Some(types) => Ok(Some(Next { hash, types })),
+        None => Ok(None),
+    }
+}
+
+/// Whether parameters are those of a zone, with no other flag than Opt-Out.
+fn is_for(found: &Parameters<'_>, param: &Param<'_>) -> bool {
+    found.flags <= OPT_OUT && found.iterations == param.iterations && found.salt == param.salt
+}
+
+/// The NSEC3 that a record is, for the parameters of a zone; none where it isn't one.
+pub(crate) fn nsec3_in(
+    alloc: Global,
+    apex: &Name,
+    param: &Param<'_>,
     resource: &Record,
 ) -> Result<Option<Nsec3>, OutOfMemory> {
     let Some(found) = parameters_in(unknown_octets(resource)) else {
         return Ok(None);
     };
-    if found.flags > 1 || found.iterations != iterations || found.salt != salt {
+    if !is_for(&found, param) {
         return Ok(None);
     }
-    let Some(hash) = hash_in(apex, resource) else {
+    let Some(hash) = owner_hash(alloc, apex, &resource.owner.for_ref())? else {
         return Ok(None);
     };
-    if found.left.len() < 21 || found.left[0] != 20 {
-        return Ok(None);
+    match next_in(alloc, found.left)? {
+        Some(next) => {
+            let nsec = Nsec3::new(hash, found.flags == OPT_OUT, next.hash, next.types);
+            Ok(Some(nsec))
+        }
+        None => Ok(None),
     }
-    let Some(types) = types_in(alloc, &found.left[21..])? else {
-        return Ok(None);
-    };
-    let mut next = [0u8; 20];
-    next.copy_from_slice(&found.left[1..21]);
-    Ok(Some(Nsec3::new(hash, found.flags == 1, next, types)))
 }
 
-/// The hash that the first label of a record's owner is, where the apex is behind it.
-fn hash_in(apex: &Name, resource: &Record) -> Option<[u8; 20]> {
-    let owner = resource.owner.for_ref();
-    if owner.behind(1) != apex.for_ref() {
-        return None;
+/// Whether a record is of type NSEC3.
+fn is_nsec3(resource: &Record) -> bool
+    ensures { result ≡ is_of 50 resource.now }
+{
+    resource.rdata.rtype().to_int() == NSEC3
+}
+
+/// Keeps the NSEC3 of a record. Gives true, and keeps none, where its data isn't that of one.
+fn keep_one(
+    alloc: Global,
+    apex: &Name,
+    param: &Param<'_>,
+    resource: &Record,
+    nsecs: &mut Vec<Nsec3>,
+) -> Result<bool, OutOfMemory> {
+    match nsec3_in(alloc, apex, param, resource)? {
+        Some(nsec) => {
+            nsecs.push(nsec)?;
+            Ok(false)
+        }
+        None => Ok(true),
     }
-    octets_of(owner.labels().next()?)
+}
+
+/// Keeps the NSEC3 of a record, if its type is NSEC3. Gives true where its data isn't that of one.
+fn keep_nsec3(
+    alloc: Global,
+    apex: &Name,
+    param: &Param<'_>,
+    resource: &Record,
+    nsecs: &mut Vec<Nsec3>,
+) -> Result<bool, OutOfMemory> {
+    if is_nsec3(resource) {
+        return keep_one(alloc, apex, param, resource, nsecs);
+    }
+    Ok(false)
+}
+
+/// The NSEC3s of the NSEC3 records of a list, in their order.
+pub(crate) fn nsec3s_in(
+    alloc: Global,
+    apex: &Name,
+    param: &Param<'_>,
+    records: &[Record],
+) -> Result<Vec<Nsec3>, Nsec3Error> {
+    let mut nsecs = Vec::new(alloc);
+    'each: for (index, resource) in records.iter().enumerate() {
+        if keep_nsec3(alloc, apex, param, resource, &mut nsecs)? {
+            return Err(Nsec3Error::Malformed(index));
+        }
+    }
+    Ok(nsecs)
 }
