@@ -1,6 +1,6 @@
 -- The reply of a name server to a query with DO, from a zone that is signed with NSEC3 (RFC 3225; RFC 4035, section 3.1; RFC 5155,
 -- section 7.2): the reply without DO, and what is added to it.
-use Rattle.std.specs.Prelude.{ℕ, Bool, true, false, ◌&&◌, ◌||◌, not, List, [], ◌∷◌, ◌++◌, nat_eq, if◌then◌else◌, Option, Some, None}
+use Rattle.std.specs.Prelude.{ℕ, Bool, true, false, ◌&&◌, ◌||◌, not, List, [], ◌∷◌, ◌++◌, map, nat_eq, if◌then◌else◌, Option, Some, None}
 use Rattle.std.specs.List.{filter, flat_map, list_any, slice_get}
 use Rattle.dns_message.specs.declared.question.Question.{Question}
 use Rattle.dns_message.specs.declared.record.Record.{Record}
@@ -80,9 +80,9 @@ fails s q answers = list_any (fails_at s q.qtype) (asked_names s.zone q answers)
 
 -- ---- NSEC3 records
 
--- the places of the NSEC3s that match or cover the names
-abbrev pub chosen_places : HashedState → ℕ → List (List (List ℕ)) → List ℕ
-chosen_places s t names = flat_map (λ (name : List (List ℕ)). near_place s.hashing s.nsec3s name ∷ []) (flat_map (proved_names s t) names)
+-- the places of the NSEC3s that match or cover the names for a name that is asked for
+abbrev pub places_of : HashedState → ℕ → List (List ℕ) → List ℕ
+places_of s t name = map (near_place s.hashing s.nsec3s) (proved_names s t name)
 
 -- places behind others, each once
 abbrev pub behind_once : List ℕ → List ℕ → List ℕ
@@ -91,7 +91,7 @@ behind_once seen (k ∷ ks) = if list_any (nat_eq k) seen then behind_once seen 
 
 -- those that prove what a reply with answers says is absent
 abbrev pub places : HashedState → Question → List Record → List ℕ
-places s q answers = behind_once [] (chosen_places s q.qtype (asked_names s.zone q answers))
+places s q answers = behind_once [] (flat_map (places_of s q.qtype) (asked_names s.zone q answers))
 
 abbrev pub group_or_none : Option (List Record) → List Record
 group_or_none None = []
@@ -100,9 +100,6 @@ group_or_none (Some rs) = rs
 -- the NSEC3 record of a place with its RRSIGs
 abbrev pub group_at : HashedState → ℕ → List Record
 group_at s k = group_or_none (slice_get s.groups k)
-
-abbrev pub hashed_denials : HashedState → Question → List Record → List Record
-hashed_denials s q answers = flat_map (group_at s) (places s q answers)
 
 -- the NSEC3s of places
 abbrev pub nsec3_or_none : Option Nsec3State → List Nsec3State
@@ -114,16 +111,19 @@ chosen3 s q answers = flat_map (λ (k : ℕ). nsec3_or_none (slice_get s.nsec3s 
 
 -- ---- the reply
 
--- the authority section with its DS records (RFC 4035, section 3.1.4) and RRSIGs, and behind it the NSEC3 records with theirs
-abbrev pub hashed_authority : HashedState → Question → ZoneReply → List Record
-hashed_authority s q r = with_rrsigs s.zone (r.authority ++ ds_of s.zone r.authority) ++ hashed_denials s q r.answers
+-- the authority section with its DS records (RFC 4035, section 3.1.4) and RRSIGs, and behind it the NSEC3 records of places with theirs
+abbrev pub proved_authority3 : HashedState → List ℕ → ZoneReply → List Record
+proved_authority3 s ks r = with_rrsigs s.zone (r.authority ++ ds_of s.zone r.authority) ++ flat_map (group_at s) ks
 
-abbrev pub hashed_do_reply : HashedState → Question → ZoneReply → ZoneReply
-hashed_do_reply s q r = record r {
+abbrev pub proved_reply : HashedState → List ℕ → ZoneReply → ZoneReply
+proved_reply s ks r = record r {
   answers = with_rrsigs s.zone r.answers;
-  authority = hashed_authority s q r;
+  authority = proved_authority3 s ks r;
   additional = with_rrsigs s.zone r.additional;
 }
+
+abbrev pub hashed_do_reply : HashedState → Question → ZoneReply → ZoneReply
+hashed_do_reply s q r = proved_reply s (places s q r.answers) r
 
 -- SERVFAIL, and no records
 abbrev pub failure : ZoneReply

@@ -6,3 +6,4 @@ pub use Rattle.dns_signed_reply.specs.SignedReplies
 pub use Rattle.dns_signed_reply.specs.PlainReplies
 pub mod HashedReplies
 pub mod HashedLaws
+pub mod Choices

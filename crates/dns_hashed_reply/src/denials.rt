@@ -1,7 +1,18 @@
 //! The NSEC3 records that prove what a reply says is absent.
 
-ghost use Rattle.std.specs.Prelude.{◌≡◌, IfOk, OnOk, IsTrue};
+ghost use Rattle.std.specs.Prelude.{◌≡◌, ◌≤◌, ◌<◌, ◌∷◌, [], false, ℕ, List, length, IfOk, OnOk, IsTrue, MatchOption};
+ghost use Rattle.std.specs.List.{flat_map};
+ghost use Rattle.dns_name.specs.Labels.{spell};
 ghost use Rattle.dns_route.specs.Routes.{ends_name};
+ghost use Rattle.dns_zone.specs.Places.{at_places};
+ghost use Rattle.dns_zone_tree.specs.Kinds.{kind_places};
+ghost use Rattle.dns_zone_tree.specs.Regions.{BelowCut, asked_region};
+ghost use Rattle.dns_zone_tree.specs.Walks.{ReachesNode, ReachesNone};
+ghost use Rattle.dns_zone_tree.specs.Wildcards.{star};
+ghost use Rattle.dns_signed_reply.specs.SignedReplies.{led_to};
+ghost use Rattle.dns_hashed_zone.specs.Searches.{near_place};
+ghost use Rattle.dns_hashed_reply.specs.Choices.{Adds, AddsFor, inside, names_places};
+ghost use Rattle.dns_hashed_reply.specs.HashedReplies.{collides, fails, own_proof, places};
 
 use dns_base::{NameRef, QuestionRef, Record, Rtype};
 use dns_hashed_zone::{HashedName, HashedZone};
@@ -20,7 +31,9 @@ pub(crate) struct Chosen {
 }
 
 /// Adds a place, unless it is there.
-fn add(chosen: &mut Chosen, place: usize) -> Result<(), OutOfMemory> {
+fn add(chosen: &mut Chosen, place: usize) -> Result<(), OutOfMemory>
+    ensures { OnOk result (Adds chosen.old chosen.new false (place ∷ [])) }
+{
     if chosen.places.as_slice().contains(&place) {
         return Ok(());
     }
@@ -35,7 +48,10 @@ fn add_own(
     alloc: Global,
     name: &NameRef<'_>,
     chosen: &mut Chosen,
-) -> Result<(), OutOfMemory> {
+) -> Result<(), OutOfMemory>
+    requires { IsTrue (ends_name name.now zone.now.zone.apex) }
+    ensures { OnOk result (Adds chosen.old chosen.new false (names_places zone.now (own_proof zone.now name.now))) }
+{
     let found = zone.search(alloc, name)?;
     match found {
         HashedName::Own(place) => add(chosen, place),
@@ -54,7 +70,11 @@ fn add_node(
     rtype: u16,
     kinds: &Kinds,
     chosen: &mut Chosen,
-) -> Result<(), OutOfMemory> {
+) -> Result<(), OutOfMemory>
+    requires inside { IsTrue (ends_name name.now zone.now.zone.apex) }
+    requires reached { ReachesNode zone.now.zone rtype name.now kinds.now }
+    ensures { OnOk result (AddsFor zone.now rtype (name.now ∷ []) chosen.old chosen.new) }
+{
     if gives(Some(kinds), rtype) {
         return Ok(());
     }
@@ -62,7 +82,9 @@ fn add_node(
 }
 
 /// The wildcard below a name; none where it would be too long.
-fn wildcard_below(alloc: Global, name: &NameRef<'_>) -> Result<Option<Name>, OutOfMemory> {
+fn wildcard_below(alloc: Global, name: &NameRef<'_>) -> Result<Option<Name>, OutOfMemory>
+    ensures { IfOk result (λ w. MatchOption w (253 < length (spell name.now)) (λ n. n ≡ star ∷ name.now)) }
+{
     let octets = name.as_slice();
     if octets.len() > 253 {
         return Ok(None);
@@ -82,7 +104,11 @@ fn add_wildcard(
     alloc: Global,
     above: &NameRef<'_>,
     chosen: &mut Chosen,
-) -> Result<(), OutOfMemory> {
+) -> Result<(), OutOfMemory>
+    requires { length (spell above.now) ≤ 253 }
+    ensures { OnOk result (Adds chosen.old chosen.new (collides zone.now (star ∷ above.now))
+        (near_place zone.now.hashing zone.now.nsec3s (star ∷ above.now) ∷ [])) }
+{
     let Some(wildcard) = wildcard_below(alloc, above)? else {
         return Ok(());
     };
@@ -103,7 +129,11 @@ fn add_missing(
     rtype: u16,
     skipped: usize,
     chosen: &mut Chosen,
-) -> Result<(), OutOfMemory> {
+) -> Result<(), OutOfMemory>
+    requires inside { IsTrue (ends_name name.now zone.now.zone.apex) }
+    requires reached { ReachesNone zone.now.zone rtype name.now skipped }
+    ensures { OnOk result (AddsFor zone.now rtype (name.now ∷ []) chosen.old chosen.new) }
+{
     let found = zone.search(alloc, name)?;
     match found {
         HashedName::Own(_) => {
@@ -136,7 +166,11 @@ fn add_cut(
     alloc: Global,
     kinds: &Kinds,
     chosen: &mut Chosen,
-) -> Result<(), OutOfMemory> {
+) -> Result<(), OutOfMemory>
+    ensures { (t : ℕ) (name : List (List ℕ))
+        → asked_region zone.now.zone t name ≡ BelowCut (at_places zone.now.zone.records (kind_places 2 kinds.now))
+        → OnOk result (AddsFor zone.now t (name ∷ []) chosen.old chosen.new) }
+{
     let servers = of_node(zone.zone(), alloc, kinds, Rtype::NS.to_int())?;
     match servers.as_slice().first() {
         Some(server) => {
@@ -160,6 +194,7 @@ fn add_name(
     chosen: &mut Chosen,
 ) -> Result<(), OutOfMemory>
     requires { IsTrue (ends_name name.now zone.now.zone.apex) }
+    ensures { OnOk result (AddsFor zone.now rtype (name.now ∷ []) chosen.old chosen.new) }
 {
     let tree = zone.zone();
     let found = tree.walk(alloc, name, rtype)?;
@@ -178,7 +213,9 @@ fn add_target(
     rtype: u16,
     alias: &Record,
     chosen: &mut Chosen,
-) -> Result<(), OutOfMemory> {
+) -> Result<(), OutOfMemory>
+    ensures { OnOk result (AddsFor zone.now rtype (inside zone.now (led_to alias.now)) chosen.old chosen.new) }
+{
     if alias.rdata.rtype() != Rtype::CNAME {
         return Ok(());
     }
@@ -197,7 +234,9 @@ fn add_targets(
     rtype: u16,
     answers: &[Record],
     chosen: &mut Chosen,
-) -> Result<(), OutOfMemory> {
+) -> Result<(), OutOfMemory>
+    ensures { OnOk result (AddsFor zone.now rtype (inside zone.now (flat_map led_to answers.now)) chosen.old chosen.new) }
+{
     'each: for alias in answers {
         add_target(zone, alloc, rtype, alias, chosen)?;
     }
@@ -212,6 +251,8 @@ pub(crate) fn chosen(
     answers: &[Record],
 ) -> Result<Chosen, OutOfMemory>
     requires { IsTrue (ends_name question.now.qname zone.now.zone.apex) }
+    ensures collides { IfOk result (λ c. c.collides ≡ fails zone.now question.now answers.now) }
+    ensures places { IfOk result (λ c. c.collides ≡ false → c.places.items ≡ places zone.now question.now answers.now) }
 {
     let rtype = question.qtype().to_int();
     let name = question.qname().to_name(alloc)?;

@@ -1,9 +1,14 @@
 //! The reply.
 
-ghost use Rattle.std.specs.Prelude.{◌≡◌, IfOk, IsTrue};
+ghost use Rattle.std.specs.Prelude.{◌≡◌, ◌++◌, IfOk, IsTrue, OnOk};
+ghost use Rattle.std.specs.List.{flat_map};
 ghost use Rattle.dns_base.specs.Builds.{Builds, unlimited};
 ghost use Rattle.dns_route.specs.Routes.{ends_name};
 ghost use Rattle.dns_zone.specs.ZoneTurns.{zone_message};
+ghost use Rattle.dns_name_server.specs.NameServerReplies.{name_server_reply};
+ghost use Rattle.dns_signed_reply.specs.SignedReplies.{ds_of, with_rrsigs};
+ghost use Rattle.dns_signed_reply.specs.PlainReplies.{said};
+ghost use Rattle.dns_hashed_reply.specs.HashedReplies.{failure, group_at, hashed_reply, proved_reply, with_proofs};
 
 use crate::denials::chosen;
 use dns_base::{AdditionalBuilder, Message, PushError, QuestionRef, Rcode, Record};
@@ -15,11 +20,9 @@ use dns_zone::begin_reply;
 use std::alloc::Global;
 
 /// Adds copies of records.
-fn add_records(
-    alloc: Global,
-    records: &[Record],
-    into: &mut Vec<Record>,
-) -> Result<(), OutOfMemory> {
+fn add_records(alloc: Global, records: &[Record], into: &mut Vec<Record>) -> Result<(), OutOfMemory>
+    ensures { OnOk result (into.new.items ≡ into.old.items ++ records.now) }
+{
     'each: for resource in records {
         let copy = resource.try_clone(alloc)?;
         into.push(copy)?;
@@ -32,7 +35,9 @@ fn hashed_records(
     zone: &HashedZone,
     alloc: Global,
     places: &[usize],
-) -> Result<Vec<Record>, OutOfMemory> {
+) -> Result<Vec<Record>, OutOfMemory>
+    ensures { IfOk result (λ v. v.items ≡ flat_map (group_at zone.now) places.now) }
+{
     let mut records = Vec::new(alloc);
     'each: for place in places {
         match zone.group(*place) {
@@ -49,7 +54,10 @@ fn proved_authority(
     alloc: Global,
     authority: Vec<Record>,
     places: &[usize],
-) -> Result<Vec<Record>, OutOfMemory> {
+) -> Result<Vec<Record>, OutOfMemory>
+    ensures { IfOk result (λ v. v.items ≡ with_rrsigs zone.now.zone (authority.items ++ ds_of zone.now.zone authority.items)
+        ++ flat_map (group_at zone.now) places.now) }
+{
     let ds = ds_of(zone.zone(), alloc, authority.as_slice())?;
     let referred = extended(authority, ds)?;
     let signed = with_rrsigs(zone.zone(), alloc, referred)?;
@@ -63,7 +71,9 @@ fn do_reply(
     alloc: Global,
     plain: PlainReply,
     places: &[usize],
-) -> Result<PlainReply, OutOfMemory> {
+) -> Result<PlainReply, OutOfMemory>
+    ensures { IfOk result (λ p. said p ≡ proved_reply zone.now places.now (said plain)) }
+{
     let PlainReply {
         aa,
         rcode,
@@ -85,7 +95,9 @@ fn do_reply(
 }
 
 /// The reply where a hash collides (RFC 5155, section 7.2.9).
-fn failed(alloc: Global, query: &Message) -> Result<AdditionalBuilder, PushError> {
+fn failed(alloc: Global, query: &Message) -> Result<AdditionalBuilder, PushError>
+    ensures { Builds (unlimited (zone_message query.now failure)) result }
+{
     let reply = begin_reply(alloc, query, Rcode::SERVFAIL, false)?;
     Ok(reply.additional())
 }
@@ -99,6 +111,8 @@ fn with_proofs(
     room: u16,
 ) -> Result<AdditionalBuilder, PushError>
     requires { IsTrue (ends_name question.now.qname zone.now.zone.apex) }
+    ensures { Builds (unlimited (zone_message query.now
+        (with_proofs zone.now room query.now question.now (name_server_reply zone.now.zone question.now)))) result }
 {
     let tree = zone.zone();
     let _lawful = tree.records();
@@ -122,6 +136,7 @@ pub fn hashed_reply(
     room: u16,
 ) -> Result<AdditionalBuilder, PushError>
     requires { IsTrue (ends_name question.now.qname zone.now.zone.apex) }
+    ensures { Builds (unlimited (zone_message query.now (hashed_reply zone.now room query.now question.now))) result }
 {
     if asks_do(query) {
         return with_proofs(zone, alloc, query, question, room);

@@ -7,3 +7,4 @@ pub use Rattle.dns_denial.specs.Signed
 pub mod Searches
 pub mod HashedStates
 pub mod HashedChecks
+pub mod MadeHashed

@@ -1,12 +1,13 @@
 //! A zone that is signed with NSEC3.
 
-ghost use Rattle.std.specs.Prelude.{◌≡◌, ◌++◌, IfOk, IsTrue, MatchResult, OnOk};
+ghost use Rattle.std.specs.Prelude.{◌≡◌, ◌++◌, length, IfOk, IsTrue, MatchResult, OnOk};
 ghost use Rattle.std.specs.List.{slice_get};
 ghost use Rattle.std.specs.Option.{option_copied};
 ghost use Rattle.dns_route.specs.Routes.{ends_name};
 ghost use Rattle.dns_zone.specs.Owned.{AreLawful};
 ghost use Rattle.dns_denial.specs.Nsec3.{IsWhole3, is_matched};
 ghost use Rattle.dns_hashed_zone.specs.HashedStates.{all_records};
+ghost use Rattle.dns_hashed_zone.specs.MadeHashed.{IsMadeOf3, Refuses3};
 ghost use Rattle.dns_hashed_zone.specs.Searches.{IsFound, near_place};
 
 use crate::check::checked;
@@ -96,6 +97,8 @@ impl HashedZone {
         records: Vec<Record>,
     ) -> Result<HashedZone, HashedZoneError>
         requires { AreLawful records.items }
+        ensures { MatchResult result (IsMadeOf3 (record { apex = apex; records = records.items }))
+            (Refuses3 (record { apex = apex; records = records.items })) }
     {
         let names = match hashed_names_in(alloc, &apex, records.as_slice()) {
             Ok(names) => names,
@@ -164,7 +167,9 @@ impl HashedZone {
     }
 
     /// How many records it has, NSEC3 records and their RRSIGs too.
-    pub fn record_count(&self) -> usize {
+    pub fn record_count(&self) -> usize
+        ensures { result ≡ length (all_records self.now) }
+    {
         let mut count = self.zone.records().len();
         'each: for group in &self.groups {
             count = count.saturating_add(group.len());
