@@ -1,6 +1,7 @@
 -- A zone that is signed with NSEC3, and its records in two lists.
-use Rattle.std.specs.Prelude.{ℕ, ◌≡◌, Bool, ◌&&◌, ◌||◌, not, List, [], ◌∷◌, ◌++◌, map, Some}
+use Rattle.std.specs.Prelude.{ℕ, ◌≡◌, ◌+◌, ◌*◌, nat_eq, slice_index, Bool, ◌&&◌, ◌||◌, not, List, [], ◌∷◌, ◌++◌, map, Some}
 use Rattle.std.specs.List.{AllByRecursion, filter}
+use Rattle.std.specs.List.Sorted.{IsPermutation}
 use Rattle.std.specs.declared.vec.Vec.{Vec}
 use Rattle.std.specs.declared.alloc.Global.{Global}
 use Rattle.dns_message.specs.declared.record.Record.{Record}
@@ -50,6 +51,19 @@ pub record IsSigned3 (s : HashedState) : Type 0 where
   pub whole : IsWhole3 s.zone s.hashing s.nsec3s
   pub groups_ : AreGroups s.zone.apex s.nsec3s s.groups
   pub lawful : AreLawful (joined s.groups)
+
+-- the type that octets say an RRSIG covers
+abbrev pub begins_with_nsec3 : List ℕ → Bool
+begins_with_nsec3 o = nat_eq (256 * slice_index o 0 + slice_index o 1) 50
+
+-- records that were parted, and grouped: for each NSEC3 those of its owner
+pub record ArePartsOf (rs named_ hashed_ : List Record) : Type 0 where
+  pub named_is : named_ ≡ named_records rs
+  pub hashed_is : hashed_ ≡ hashed_records rs
+
+pub record AreGroupsOf (apex : List (List ℕ)) (ns : List Nsec3State) (rs : List Record) (gs : List (List Record)) : Type 0 where
+  pub groups_ : AreGroups apex ns gs
+  pub all : IsPermutation rs (joined gs)
 
 abbrev pub items_of : List (Vec Record Global) → List (List Record)
 items_of vs = map (λ (v : Vec Record Global). v.items) vs

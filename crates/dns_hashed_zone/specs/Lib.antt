@@ -7,4 +7,5 @@ pub use Rattle.dns_denial.specs.Signed
 pub mod Searches
 pub mod HashedStates
 pub mod HashedChecks
+pub mod Meetings
 pub mod MadeHashed

@@ -1,5 +1,5 @@
 -- Zones signed with NSEC3 that are made of records, and records that are none.
-use Rattle.std.specs.Prelude.{ℕ, ◌≡◌, List, Err, Some}
+use Rattle.std.specs.Prelude.{ℕ, ◌≡◌, List, Err, Option, Some, MatchOption}
 use Rattle.std.specs.List.{Contains, slice_get}
 use Rattle.std.specs.List.Sorted.{IsPermutation}
 use Rattle.dns_message.specs.declared.record.Record.{Record}
@@ -25,15 +25,32 @@ pub record IsMadeOf3 (z : ZoneState) (s : HashedState) : Type 0 where
   pub nsec3s_ : IsChain3Of z.apex s.hashing z.records s.nsec3s
   pub groups_ : IsPermutation (hashed_records z.records) (joined s.groups)
 
--- the place among the records of NSEC3s of one that no NSEC3 has the owner of
-pub record IsUnowned (z : ZoneState) (ns : List Nsec3State) (i : ℕ) : Type 0 where
+-- no NSEC3 has the owner of a record, or the NSEC3 at a place has
+abbrev pub HasNone3 : List (List ℕ) → List Nsec3State → Record → Type 0
+HasNone3 apex ns r = (n : Nsec3State) → Contains ns n → owner_hash apex r.owner ≡ Some n.hash → ⊥
+
+abbrev pub HasAt : List (List ℕ) → List Nsec3State → Record → ℕ → Type 0
+HasAt apex ns r k = (n : Nsec3State) × (Some n ≡ slice_get ns k) × (owner_hash apex r.owner ≡ Some n.hash)
+
+abbrev pub GivesPlace : List (List ℕ) → List Nsec3State → Record → Option ℕ → Type 0
+GivesPlace apex ns r o = MatchOption o (HasNone3 apex ns r) (λ k. HasAt apex ns r k)
+
+-- the place of one that has none
+pub record IsUnowned (apex : List (List ℕ)) (ns : List Nsec3State) (rs : List Record) (i : ℕ) : Type 0 where
   pub one : Record
-  pub place : Some one ≡ slice_get (hashed_records z.records) i
-  pub none : (n : Nsec3State) → Contains ns n → owner_hash z.apex one.owner ≡ Some n.hash → ⊥
+  pub place : Some one ≡ slice_get rs i
+  pub none : HasNone3 apex ns one
+
+abbrev pub IsUnownedAt : List (List ℕ) → List Nsec3State → List Record → HashedChainError → Type 0
+IsUnownedAt apex ns rs (Unowned i) = IsUnowned apex ns rs i
+IsUnownedAt apex ns rs (Unlisted i) = ⊥
+IsUnownedAt apex ns rs (Unfounded i) = ⊥
+IsUnownedAt apex ns rs (Unlinked i) = ⊥
+IsUnownedAt apex ns rs NoMemory = Unit {0}
 
 -- why the chain isn't whole, or that a record has no NSEC3
 abbrev pub BreaksAt : ZoneState → Hashing → List Nsec3State → HashedChainError → Type 0
-BreaksAt z h ns (Unowned i) = IsUnowned z ns i
+BreaksAt z h ns (Unowned i) = IsUnowned z.apex ns (hashed_records z.records) i
 BreaksAt z h ns (Unlisted i) = Breaks3 (named z) h ns (Unlisted i)
 BreaksAt z h ns (Unfounded i) = Breaks3 (named z) h ns (Unfounded i)
 BreaksAt z h ns (Unlinked i) = Breaks3 (named z) h ns (Unlinked i)

@@ -1,5 +1,12 @@
 //! Whether a chain of NSEC3s is whole.
 
+ghost use Rattle.std.specs.Prelude.{◌≡◌, ◌||◌, not, IsTrue};
+ghost use Rattle.std.specs.List.{list_all};
+ghost use Rattle.dns_route.specs.Routes.{ends_name};
+ghost use Rattle.dns_denial.specs.Chains.{is_deniable};
+ghost use Rattle.dns_denial.specs.Checks.{IsHeld};
+ghost use Rattle.dns_hashed_zone.specs.Meetings.{Lists, is_point, is_typed};
+
 use crate::hashed_zone_error::HashedChainError;
 use crate::search::near_of;
 use dns_base::Record;
@@ -15,27 +22,37 @@ const NS: u16 = 2;
 const DS: u16 = 43;
 
 /// Whether a type's bit says something.
-fn is_deniable(rtype: u16) -> bool {
+fn is_deniable(rtype: u16) -> bool
+    ensures { result ≡ is_deniable rtype }
+{
     !(rtype == 46 || rtype == 47)
 }
 
 /// Whether a name with these places is a delegation point.
-fn is_cut(zone: &ZoneTree, name: &NameRef<'_>, kinds: &Kinds) -> bool {
-    kinds.has(NS) && !name.name_eq(&zone.apex().for_ref())
+fn is_cut(zone: &ZoneTree, name: &NameRef<'_>, kinds: &Kinds) -> bool
+    ensures { result ≡ is_point zone.now name.now kinds.now }
+{
+    kinds.has(NS) && name.label_count() != zone.apex().label_count()
 }
 
 /// Whether the zone has a type at a name with these places: of a delegation point the NS and the DS alone.
-fn has_type(kinds: &Kinds, cut: bool, rtype: u16) -> bool {
+fn has_type(kinds: &Kinds, cut: bool, rtype: u16) -> bool
+    ensures { result ≡ is_typed kinds.now cut rtype }
+{
     kinds.has(rtype) && (!cut || (rtype == NS || rtype == DS))
 }
 
 /// Whether a type that is listed is there.
-fn is_there(kinds: &Kinds, cut: bool, rtype: u16) -> bool {
+fn is_there(kinds: &Kinds, cut: bool, rtype: u16) -> bool
+    ensures { result ≡ (not (is_deniable rtype) || is_typed kinds.now cut rtype) }
+{
     !is_deniable(rtype) || has_type(kinds, cut, rtype)
 }
 
 /// Whether types that are listed are there.
-fn are_there(kinds: &Kinds, cut: bool, types: &[u16]) -> bool {
+fn are_there(kinds: &Kinds, cut: bool, types: &[u16]) -> bool
+    ensures { result ≡ list_all (λ t. not (is_deniable t) || is_typed kinds.now cut t) types.now }
+{
     types.iter().all(|rtype| is_there(kinds, cut, *rtype))
 }
 
@@ -62,7 +79,11 @@ fn are_listed(records: &[Record], kinds: &Kinds, cut: bool, types: &[u16]) -> bo
 }
 
 /// Whether an NSEC3 lists exactly the types that the zone has at a name with these places.
-fn lists_types(zone: &ZoneTree, name: &NameRef<'_>, kinds: &Kinds, nsec: &Nsec3) -> bool {
+fn lists_types(zone: &ZoneTree, name: &NameRef<'_>, kinds: &Kinds, nsec: &Nsec3) -> bool
+    requires inside { IsTrue (ends_name name.now zone.now.apex) }
+    requires held { IsHeld zone.now name.now kinds.now }
+    ensures { Lists zone.now name.now nsec.now result }
+{
     let cut = is_cut(zone, name, kinds);
     let types = nsec.types();
     are_there(kinds, cut, types) && are_listed(zone.records(), kinds, cut, types)

@@ -1,6 +1,11 @@
 //! The NSEC3 records of a zone, with the RRSIGs that cover them, put aside and grouped by their owners.
 
-ghost use Rattle.std.specs.Prelude.{◌≡◌, ◌<◌, length, IfOk};
+ghost use Rattle.std.specs.Prelude.{◌≡◌, ◌<◌, ◌≤◌, length, IfOk, MatchOption, MatchResult};
+ghost use Rattle.std.specs.List.{slice_get};
+ghost use Rattle.dns_denial.specs.Hashes.{AreSorted3};
+ghost use Rattle.dns_nsec_data.specs.NsecData.{unknown_octets};
+ghost use Rattle.dns_hashed_zone.specs.HashedStates.{AreGroupsOf, ArePartsOf, begins_with_nsec3, is_hashed, items_of};
+ghost use Rattle.dns_hashed_zone.specs.MadeHashed.{GivesPlace, IsUnownedAt};
 
 use crate::hashed_zone_error::HashedChainError;
 use crate::search::{is_of, nearest};
@@ -26,7 +31,9 @@ pub(crate) struct Parted {
 }
 
 /// The octets of data whose form isn't read.
-fn octets_of(resource: &Record) -> &[u8] {
+fn octets_of(resource: &Record) -> &[u8]
+    ensures { result.now ≡ unknown_octets resource.now.rdata }
+{
     match &resource.rdata {
         RecordData::Unknown { octets, .. } => octets.as_slice(),
         _ => &[],
@@ -34,18 +41,26 @@ fn octets_of(resource: &Record) -> &[u8] {
 }
 
 /// Whether octets begin with the number of the type NSEC3.
-fn begin_with_nsec3(octets: &[u8]) -> bool {
-    octets.len() > 1 && (octets[0] == 0 && octets[1] == 50)
+fn begin_with_nsec3(octets: &[u8]) -> bool
+    ensures { result ≡ begins_with_nsec3 octets.now }
+{
+    let high = octets.first().copied().unwrap_or(0);
+    let low = octets.get(1).copied().unwrap_or(0);
+    256 * high as u16 + low as u16 == NSEC3
 }
 
 /// Whether a record is an NSEC3 record, or an RRSIG that covers one.
-fn is_hashed(resource: &Record) -> bool {
+fn is_hashed(resource: &Record) -> bool
+    ensures { result ≡ is_hashed resource.now }
+{
     let rtype = resource.rdata.rtype().to_int();
     rtype == NSEC3 || (rtype == RRSIG && begin_with_nsec3(octets_of(resource)))
 }
 
 /// Parts records.
-pub(crate) fn parted(alloc: Global, records: Vec<Record>) -> Result<Parted, OutOfMemory> {
+pub(crate) fn parted(alloc: Global, records: Vec<Record>) -> Result<Parted, OutOfMemory>
+    ensures { IfOk result (λ p. ArePartsOf records.items p.named.items p.hashed.items) }
+{
     let mut named = Vec::new(alloc);
     let mut hashed = Vec::new(alloc);
     'each: for resource in records {
@@ -75,7 +90,11 @@ fn place_of(
     apex: &Name,
     nsecs: &[Nsec3],
     resource: &Record,
-) -> Result<Option<usize>, OutOfMemory> {
+) -> Result<Option<usize>, OutOfMemory>
+    requires sorted { AreSorted3 nsecs.now }
+    requires some { 0 < length nsecs.now }
+    ensures { IfOk result (GivesPlace apex.now nsecs.now resource.now) }
+{
     let Some(hash) = owner_hash(alloc, apex, &resource.owner.for_ref())? else {
         return Ok(None);
     };
@@ -92,7 +111,12 @@ pub(crate) fn grouped(
     apex: &Name,
     nsecs: &[Nsec3],
     hashed: Vec<Record>,
-) -> Result<Vec<Vec<Record>>, HashedChainError> {
+) -> Result<Vec<Vec<Record>>, HashedChainError>
+    requires sorted { AreSorted3 nsecs.now }
+    requires some { 0 < length nsecs.now }
+    ensures { MatchResult result (λ v. AreGroupsOf apex.now nsecs.now hashed.items (items_of v.items))
+        (λ e. IsUnownedAt apex.now nsecs.now hashed.items e) }
+{
     let mut groups = empty_groups(alloc, nsecs.len())?;
     let mut at = 0;
     'each: for resource in hashed {
