@@ -244,7 +244,7 @@ fn add_targets(
 }
 
 /// The NSEC3s that prove what is absent of the name of a question, and of the targets of the aliases among answers.
-pub(crate) fn chosen(
+pub(crate) fn chosen_for(
     zone: &HashedZone,
     alloc: Global,
     question: &QuestionRef<'_>,

@@ -10,7 +10,7 @@ ghost use Rattle.dns_signed_reply.specs.SignedReplies.{ds_of, with_rrsigs};
 ghost use Rattle.dns_signed_reply.specs.PlainReplies.{said};
 ghost use Rattle.dns_hashed_reply.specs.HashedReplies.{failure, group_at, hashed_reply, proved_reply, with_proofs};
 
-use crate::denials::chosen;
+use crate::denials::chosen_for;
 use dns_base::{AdditionalBuilder, Message, PushError, QuestionRef, Rcode, Record};
 use dns_hashed_zone::HashedZone;
 use dns_name::OutOfMemory;
@@ -117,7 +117,7 @@ fn with_proofs(
     let tree = zone.zone();
     let _lawful = tree.records();
     let plain = plain_reply(tree, alloc, question)?;
-    let found = chosen(zone, alloc, question, plain.answers.as_slice())?;
+    let found = chosen_for(zone, alloc, question, plain.answers.as_slice())?;
     if found.collides {
         return failed(alloc, query);
     }

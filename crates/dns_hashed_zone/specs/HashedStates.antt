@@ -1,5 +1,5 @@
 -- A zone that is signed with NSEC3, and its records in two lists.
-use Rattle.std.specs.Prelude.{ℕ, ◌≡◌, ◌+◌, ◌*◌, nat_eq, slice_index, Bool, ◌&&◌, ◌||◌, not, List, [], ◌∷◌, ◌++◌, map, Some}
+use Rattle.std.specs.Prelude.{ℕ, ◌≡◌, ◌+◌, ◌*◌, nat_eq, slice_index, Bool, ◌&&◌, ◌||◌, not, List, [], ◌∷◌, ◌++◌, length, map, Some}
 use Rattle.std.specs.List.{AllByRecursion, filter}
 use Rattle.std.specs.List.Sorted.{IsPermutation}
 use Rattle.std.specs.declared.vec.Vec.{Vec}
@@ -51,6 +51,11 @@ pub record IsSigned3 (s : HashedState) : Type 0 where
   pub whole : IsWhole3 s.zone s.hashing s.nsec3s
   pub groups_ : AreGroups s.zone.apex s.nsec3s s.groups
   pub lawful : AreLawful (joined s.groups)
+
+-- and so many are all
+pub record IsKept (s : HashedState) (count : ℕ) : Type 0 where
+  pub signed : IsSigned3 s
+  pub counted : count ≡ length (all_records s)
 
 -- the type that octets say an RRSIG covers
 abbrev pub begins_with_nsec3 : List ℕ → Bool

@@ -23,7 +23,7 @@ const NSEC3: u16 = 50;
 
 /// The records of a zone in two lists.
 #[derive(Drop)]
-pub(crate) struct Parted {
+pub(crate) struct Parts {
     /// Those of names.
     pub(crate) named: Vec<Record>,
     /// NSEC3 records, and the RRSIGs that cover them.
@@ -58,7 +58,7 @@ fn is_hashed(resource: &Record) -> bool
 }
 
 /// Parts records.
-pub(crate) fn parted(alloc: Global, records: Vec<Record>) -> Result<Parted, OutOfMemory>
+pub(crate) fn parted(alloc: Global, records: Vec<Record>) -> Result<Parts, OutOfMemory>
     ensures { IfOk result (λ p. ArePartsOf records.items p.named.items p.hashed.items) }
 {
     let mut named = Vec::new(alloc);
@@ -70,7 +70,7 @@ pub(crate) fn parted(alloc: Global, records: Vec<Record>) -> Result<Parted, OutO
             named.push(resource)?;
         }
     }
-    Ok(Parted { named, hashed })
+    Ok(Parts { named, hashed })
 }
 
 /// No records for each of so many places.

@@ -11,7 +11,7 @@ ghost use Rattle.dns_hashed_zone.specs.MadeHashed.{IsMadeOf3, Refuses3};
 ghost use Rattle.dns_hashed_zone.specs.Searches.{IsFound, near_place};
 
 use crate::check::checked;
-use crate::groups::{grouped, parted};
+use crate::groups::{Parts, grouped, parted};
 use crate::hashed_zone_error::{HashedChainError, HashedZoneError};
 use crate::search::{HashedName, Near, found, near_of};
 use dns_base::Record;
@@ -30,16 +30,18 @@ pub struct HashedZone {
     hashing: Hashing,
     chain: HashedChain,
     groups: Vec<Vec<Record>>,
+    count: usize,
 }
 
 impl Model for HashedZone {
-    ghost use Rattle.dns_hashed_zone.specs.HashedStates.{HashedState, IsSigned3, items_of};
+    ghost use Rattle.dns_hashed_zone.specs.HashedStates.{HashedState, IsKept, items_of};
 
     ghost Value = { HashedState };
 
     ghost view = { λ s. record { zone = s.zone; hashing = s.hashing; nsec3s = s.chain; groups = items_of s.groups.items } };
 
-    ghost invariant = { λ s. IsSigned3 (record { zone = s.zone; hashing = s.hashing; nsec3s = s.chain; groups = items_of s.groups.items }) };
+    ghost invariant = { λ s. IsKept (record { zone = s.zone; hashing = s.hashing; nsec3s = s.chain; groups = items_of s.groups.items })
+        s.count };
 }
 
 /// Adds copies of records.
@@ -59,6 +61,7 @@ fn chained(
     zone: ZoneTree,
     names: HashedNames,
     hashed: Vec<Record>,
+    count: usize,
 ) -> Result<HashedZone, HashedZoneError> {
     let HashedNames { hashing, chain } = names;
     match groups_of(alloc, &zone, &hashing, &chain, hashed) {
@@ -67,6 +70,7 @@ fn chained(
             hashing,
             chain,
             groups,
+            count,
         }),
         Err(error) => Err(HashedZoneError::Chain(error)),
     }
@@ -104,11 +108,13 @@ impl HashedZone {
             Ok(names) => names,
             Err(error) => return Err(HashedZoneError::Nsec3(error)),
         };
+        let count = records.len();
         let Ok(parts) = parted(alloc, records) else {
             return Err(HashedZoneError::Nsec3(Nsec3Error::OutOfMemory));
         };
-        match ZoneTree::new(alloc, apex, parts.named) {
-            Ok(zone) => chained(alloc, zone, names, parts.hashed),
+        let Parts { named, hashed } = parts;
+        match ZoneTree::new(alloc, apex, named) {
+            Ok(zone) => chained(alloc, zone, names, hashed, count),
             Err(error) => Err(HashedZoneError::Tree(error)),
         }
     }
@@ -170,11 +176,7 @@ impl HashedZone {
     pub fn record_count(&self) -> usize
         ensures { result ≡ length (all_records self.now) }
     {
-        let mut count = self.zone.records().len();
-        'each: for group in &self.groups {
-            count = count.saturating_add(group.len());
-        }
-        count
+        self.count
     }
 
     /// A copy of all its records: those of names, and behind them the NSEC3 records with their RRSIGs in the order of their hashes.

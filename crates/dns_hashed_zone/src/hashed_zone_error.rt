@@ -5,6 +5,7 @@ ghost use Rattle.std.specs.Prelude.{◌≡◌};
 use dns_name::OutOfMemory;
 use dns_nsec3_data::Nsec3Error;
 use dns_zone_tree::TreeError;
+use std::alloc::AllocError;
 
 /// Where a chain of NSEC3s isn't whole.
 #[derive(Clone, Copy, Debug)]
@@ -27,6 +28,16 @@ impl From<OutOfMemory> for HashedChainError {
     ghost from_gives = { λ _ e. e ≡ NoMemory };
 
     fn from(_error: OutOfMemory) -> Self {
+        HashedChainError::OutOfMemory
+    }
+}
+
+impl From<AllocError> for HashedChainError {
+    ghost use Rattle.dns_hashed_zone.specs.declared.hashed_zone_error.HashedChainError.TheVariants.{OutOfMemory as NoMemory};
+
+    ghost from_gives = { λ _ e. e ≡ NoMemory };
+
+    fn from(_error: AllocError) -> Self {
         HashedChainError::OutOfMemory
     }
 }

@@ -40,12 +40,21 @@ is_used apex r = is_of 51 r && (same_name r.owner apex && nat_eq (slice_index (u
 abbrev pub used_records : List (List ℕ) → List Record → List Record
 used_records apex rs = filter (is_used apex) rs
 
--- the hashing of a zone is that of its one such record (section 7.3: a server uses those of one chain)
-pub record IsHashing (apex : List (List ℕ)) (rs : List Record) (h : Hashing) : Type 0 where
+-- those of a zone are the data of its one such record (section 7.3: a server uses those of one chain)
+pub record IsParam (apex : List (List ℕ)) (rs : List Record) (h : Hashing) : Type 0 where
   pub one : Record
   pub alone : used_records apex rs ≡ one ∷ []
   pub data_ : unknown_octets one.rdata ≡ parameters 0 h
+
+-- the hashing of a zone, which isn't refused
+pub record IsHashing (apex : List (List ℕ)) (rs : List Record) (h : Hashing) : Type 0 where
+  pub param : IsParam apex rs h
   pub allowed : hashing_error h.salt h.iterations ≡ None
+
+-- a hashing that isn't refused
+pub record IsMadeHashing (of h : Hashing) : Type 0 where
+  pub is : h ≡ of
+  pub allowed : hashing_error of.salt of.iterations ≡ None
 
 -- ---- NSEC3
 
@@ -54,12 +63,27 @@ abbrev pub owner_hash : List (List ℕ) → List (List ℕ) → Option (List ℕ
 owner_hash apex [] = None
 owner_hash apex (l ∷ ls) = if same_name ls apex then base32_octets l else None
 
+abbrev pub HasNoHash : List (List ℕ) → List (List ℕ) → Type 0
+HasNoHash apex owner = (o : List ℕ) → owner_hash apex owner ≡ Some o → length o ≡ 20 → ⊥
+
+pub record HasHash (apex owner : List (List ℕ)) (o : List ℕ) : Type 0 where
+  pub is : owner_hash apex owner ≡ Some o
+  pub size : length o ≡ 20
+
 -- "Hash Length | Next Hashed Owner Name | Type Bit Maps" (section 3.2) behind parameters, with a hash of 20 octets
 pub record SaysNext3 (left next types : List ℕ) : Type 0 where
   pub bits : List ℕ
   pub octets_ : left ≡ 20 ∷ (next ++ bits)
   pub size : length next ≡ 20
   pub types_ : SayTypes bits types
+
+abbrev pub SaysNothing3 : List ℕ → Type 0
+SaysNothing3 left = (next types : List ℕ) → SaysNext3 left next types → ⊥
+
+-- parameters of a hashing, with no other flag than Opt-Out
+pub record IsFor (flags : ℕ) (of h : Hashing) : Type 0 where
+  pub known : flags ≤ 1
+  pub same : of ≡ h
 
 -- the NSEC3 that a record is, for a hashing; one with another flag than Opt-Out is none (section 8.2)
 pub record IsNsec3 (apex : List (List ℕ)) (h : Hashing) (r : Record) (n : Nsec3State) : Type 0 where
@@ -93,6 +117,11 @@ pub record IsChain3Of (apex : List (List ℕ)) (h : Hashing) (rs : List Record) 
   pub nsec3s : AreNsec3s apex h (nsec3_records rs) read
   pub order : IsPermutation read ns
 
+-- the hashing and the chain of a list
+pub record IsHashedOf3 (apex : List (List ℕ)) (rs : List Record) (h : Hashing) (ns : List Nsec3State) : Type 0 where
+  pub hashing : IsHashing apex rs h
+  pub chain : IsChain3Of apex h rs ns
+
 -- the hash of one is lower than that of another
 abbrev pub is_ahead3 : Nsec3State → Nsec3State → Bool
 is_ahead3 m n = is_lower m.hash n.hash
@@ -111,10 +140,8 @@ pub record HasNoParam (apex : List (List ℕ)) (rs : List Record) : Type 0 where
 
 -- they are, and are refused
 pub record IsRefused (apex : List (List ℕ)) (rs : List Record) (e : HashingError) : Type 0 where
-  pub one : Record
-  pub alone : used_records apex rs ≡ one ∷ []
   pub hashing : Hashing
-  pub data_ : unknown_octets one.rdata ≡ parameters 0 hashing
+  pub is : IsParam apex rs hashing
   pub error : hashing_error hashing.salt hashing.iterations ≡ Some e
 
 -- the place of the first NSEC3 record of a list that is no NSEC3 for the hashing of the zone
@@ -134,6 +161,14 @@ pub record HasTwice3 (apex : List (List ℕ)) (rs : List Record) : Type 0 where
   pub nsec3s : List Nsec3State
   pub chain : IsChain3Of apex hashing rs nsec3s
   pub twice : AreApart3 nsec3s → ⊥
+
+abbrev pub FailsBy : Hashing → Nsec3Error → Type 0
+FailsBy h (Params n) = ⊥
+FailsBy h Param = ⊥
+FailsBy h (Unhashed e) = hashing_error h.salt h.iterations ≡ Some e
+FailsBy h (Malformed i) = ⊥
+FailsBy h Twice = ⊥
+FailsBy h NoMemory = Unit {0}
 
 abbrev pub Fails3 : List (List ℕ) → List Record → Nsec3Error → Type 0
 Fails3 apex rs (Params n) = (length (used_records apex rs) ≡ n) × (nat_eq n 1 ≡ false)

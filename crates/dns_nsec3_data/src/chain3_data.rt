@@ -4,7 +4,7 @@ ghost use Rattle.std.specs.Prelude.{◌≡◌, IfOk, MatchResult};
 ghost use Rattle.std.specs.List.Sorted.{IsPermutation, IsSortedBy};
 ghost use Rattle.std.specs.Ordering.{nat_cmp};
 ghost use Rattle.std.specs.Cmp.Lexicographic.{slice_cmp};
-ghost use Rattle.dns_nsec3_data.specs.Nsec3Data.{Fails3, IsChain3Of, is_ahead3};
+ghost use Rattle.dns_nsec3_data.specs.Nsec3Data.{Fails3, IsChain3Of, IsHashedOf3, is_ahead3};
 
 use crate::nsec3_data::nsec3s_in;
 use crate::nsec3_error::Nsec3Error;
@@ -58,8 +58,7 @@ pub fn hashed_names_in(
     apex: &Name,
     records: &[Record],
 ) -> Result<HashedNames, Nsec3Error>
-    ensures { MatchResult result (λ n. IsHashing apex.now records.now n.hashing × IsChain3Of apex.now n.hashing records.now n.chain)
-        (Fails3 apex.now records.now) }
+    ensures { MatchResult result (λ n. IsHashedOf3 apex.now records.now n.hashing n.chain) (Fails3 apex.now records.now) }
 {
     let param = param_in(apex, records)?;
     let hashing = hashing_of(alloc, &param)?;

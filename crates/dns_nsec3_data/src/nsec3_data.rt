@@ -1,8 +1,8 @@
 //! NSEC3 records as a zone has them (RFC 5155, section 3).
 
-ghost use Rattle.std.specs.Prelude.{◌≡◌, IfOk, MatchOption, MatchResult};
+ghost use Rattle.std.specs.Prelude.{◌≡◌, ◌≢◌, ◌↔◌, length, IfOk, IsTrue, MatchOption, MatchResult};
 ghost use Rattle.dns_zone.specs.Owned.{is_of};
-ghost use Rattle.dns_nsec3_data.specs.Nsec3Data.{AreNsec3s, IsNoNsec3, IsNsec3, Keeps3, KeepsOne3, SaysNext3, nsec3_records, owner_hash};
+ghost use Rattle.dns_nsec3_data.specs.Nsec3Data.{AreNsec3s, Fails3, HasHash, HasNoHash, IsFor, IsHashing, IsNoNsec3, IsNsec3, Keeps3, KeepsOne3, SaysNext3, SaysNothing3, nsec3_records};
 
 use crate::nsec3_error::Nsec3Error;
 use crate::parameters::{Param, Parameters, parameters_in, unknown_octets};
@@ -43,7 +43,9 @@ pub fn owner_hash(
     alloc: Global,
     apex: &Name,
     owner: &NameRef<'_>,
-) -> Result<Option<[u8; 20]>, OutOfMemory> {
+) -> Result<Option<[u8; 20]>, OutOfMemory>
+    ensures { IfOk result (λ o. MatchOption o (HasNoHash apex.now owner.now) (HasHash apex.now owner.now)) }
+{
     let mut labels = owner.labels();
     let Some(label) = labels.next() else {
         return Ok(None);
@@ -58,7 +60,9 @@ pub fn owner_hash(
 }
 
 /// What the data of an NSEC3 record says behind its parameters; none where octets are no such data.
-fn next_in(alloc: Global, left: &[u8]) -> Result<Option<Next>, OutOfMemory> {
+fn next_in(alloc: Global, left: &[u8]) -> Result<Option<Next>, OutOfMemory>
+    ensures { IfOk result (λ o. MatchOption o (SaysNothing3 left.now) (λ d. SaysNext3 left.now d.hash d.types.items)) }
+{
     let [20, rest @ ..] = left else {
         return Ok(None);
     };
@@ -75,7 +79,10 @@ fn next_in(alloc: Global, left: &[u8]) -> Result<Option<Next>, OutOfMemory> {
 }
 
 /// Whether parameters are those of a zone, with no other flag than Opt-Out.
-fn is_for(found: &Parameters<'_>, param: &Param<'_>) -> bool {
+fn is_for(found: &Parameters<'_>, param: &Param<'_>) -> bool
+    ensures { IsTrue result ↔ IsFor found.now.flags (record { salt = found.now.salt.now; iterations = found.now.iterations })
+        (record { salt = param.now.salt.now; iterations = param.now.iterations }) }
+{
     found.flags <= OPT_OUT && found.iterations == param.iterations && found.salt == param.salt
 }
 
@@ -85,7 +92,11 @@ pub(crate) fn nsec3_in(
     apex: &Name,
     param: &Param<'_>,
     resource: &Record,
-) -> Result<Option<Nsec3>, OutOfMemory> {
+) -> Result<Option<Nsec3>, OutOfMemory>
+    ensures { IfOk result (λ o.
+        MatchOption o (IsNoNsec3 apex.now (record { salt = param.now.salt.now; iterations = param.now.iterations }) resource.now)
+        (IsNsec3 apex.now (record { salt = param.now.salt.now; iterations = param.now.iterations }) resource.now)) }
+{
     let Some(found) = parameters_in(unknown_octets(resource)) else {
         return Ok(None);
     };
@@ -118,7 +129,10 @@ fn keep_one(
     param: &Param<'_>,
     resource: &Record,
     nsecs: &mut Vec<Nsec3>,
-) -> Result<bool, OutOfMemory> {
+) -> Result<bool, OutOfMemory>
+    ensures { IfOk result (KeepsOne3 apex.now (record { salt = param.now.salt.now; iterations = param.now.iterations }) resource.now
+        nsecs.old.items nsecs.new.items) }
+{
     match nsec3_in(alloc, apex, param, resource)? {
         Some(nsec) => {
             nsecs.push(nsec)?;
@@ -135,7 +149,10 @@ fn keep_nsec3(
     param: &Param<'_>,
     resource: &Record,
     nsecs: &mut Vec<Nsec3>,
-) -> Result<bool, OutOfMemory> {
+) -> Result<bool, OutOfMemory>
+    ensures { IfOk result (Keeps3 apex.now (record { salt = param.now.salt.now; iterations = param.now.iterations }) resource.now
+        nsecs.old.items nsecs.new.items) }
+{
     if is_nsec3(resource) {
         return keep_one(alloc, apex, param, resource, nsecs);
     }
@@ -148,7 +165,11 @@ pub(crate) fn nsec3s_in(
     apex: &Name,
     param: &Param<'_>,
     records: &[Record],
-) -> Result<Vec<Nsec3>, Nsec3Error> {
+) -> Result<Vec<Nsec3>, Nsec3Error>
+    requires { IsHashing apex.now records.now (record { salt = param.now.salt.now; iterations = param.now.iterations }) }
+    ensures { MatchResult result (λ v. AreNsec3s apex.now (record { salt = param.now.salt.now; iterations = param.now.iterations })
+        (nsec3_records records.now) v.items) (Fails3 apex.now records.now) }
+{
     let mut nsecs = Vec::new(alloc);
     'each: for (index, resource) in records.iter().enumerate() {
         if keep_nsec3(alloc, apex, param, resource, &mut nsecs)? {

@@ -1,10 +1,10 @@
 //! Hash parameters (RFC 5155, sections 3.1 and 4.1).
 
-ghost use Rattle.std.specs.Prelude.{◌≡◌, ◌∷◌, [], length, IfOk, MatchOption, MatchResult};
+ghost use Rattle.std.specs.Prelude.{◌≡◌, ◌∷◌, [], length, slice_index, MatchOption, MatchResult};
 ghost use Rattle.std.specs.Option.{option_copied};
 ghost use Rattle.std.specs.List.{find};
 ghost use Rattle.dns_nsec_data.specs.NsecData.{unknown_octets};
-ghost use Rattle.dns_nsec3_data.specs.Nsec3Data.{BeginWithNoParameters, BeginWithParameters, Fails3, IsHashing, is_used, used_records};
+ghost use Rattle.dns_nsec3_data.specs.Nsec3Data.{BeginWithNoParameters, BeginWithParameters, Fails3, FailsBy, IsMadeHashing, IsParam, is_used, used_records};
 
 use crate::nsec3_error::Nsec3Error;
 use dns_denial::Hashing;
@@ -126,7 +126,10 @@ pub(crate) fn param_in<'a>(apex: &Name, records: &'a [Record]) -> Result<Param<'
 }
 
 /// The hashing of a zone with these records.
-pub(crate) fn hashing_of(alloc: Global, param: &Param<'_>) -> Result<Hashing, Nsec3Error> {
+pub(crate) fn hashing_of(alloc: Global, param: &Param<'_>) -> Result<Hashing, Nsec3Error>
+    ensures { MatchResult result (IsMadeHashing (record { salt = param.now.salt.now; iterations = param.now.iterations }))
+        (FailsBy (record { salt = param.now.salt.now; iterations = param.now.iterations })) }
+{
     let salt = Vec::from_slice(alloc, param.salt)?;
     match Hashing::new(salt, param.iterations) {
         Ok(hashing) => Ok(hashing),
