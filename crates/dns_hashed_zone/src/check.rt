@@ -226,8 +226,7 @@ pub(crate) fn checked(
     hashing: &Hashing,
     nsecs: &[Nsec3],
 ) -> Result<(), HashedChainError> {
-    let mut met = Vec::new(alloc);
-    met.resize(nsecs.len(), false)?;
+    let mut met = vec![in alloc; false; nsecs.len()]?;
     match first_unlisted(zone, alloc, hashing, nsecs, met.as_mut_slice())? {
         Some(index) => Err(HashedChainError::Unlisted(index)),
         None => check_nsecs(nsecs, met.as_slice()),
