@@ -26,16 +26,24 @@ struct Next {
     types: Vec<u16>,
 }
 
-/// The 20 octets of a hash; none where there are fewer or more.
+/// The 20 octets of a hash.
+fn hash_of(octets: &[u8]) -> [u8; 20]
+    requires { length octets.now ≡ 20 }
+    ensures { result ≡ octets.now }
+{
+    let mut hash = [0u8; 20];
+    hash.copy_from_slice(octets);
+    hash
+}
+
+/// The octets of a hash as an array; none where they aren't 20.
 fn hash_in(octets: &[u8]) -> Option<[u8; 20]>
     ensures { MatchOption result (length octets.now ≢ 20) (λ h. h ≡ octets.now) }
 {
     if octets.len() != 20 {
         return None;
     }
-    let mut hash = [0u8; 20];
-    hash.copy_from_slice(octets);
-    Some(hash)
+    Some(hash_of(octets))
 }
 
 /// The hash that the first label of an owner is in base 32, where the apex is behind it.
@@ -63,17 +71,17 @@ pub fn owner_hash(
 fn next_in(alloc: Global, left: &[u8]) -> Result<Option<Next>, OutOfMemory>
     ensures { IfOk result (λ o. MatchOption o (SaysNothing3 left.now) (λ d. SaysNext3 left.now d.hash d.types.items)) }
 {
-    let [20, rest @ ..] = left else {
-        return Ok(None);
-    };
-    if rest.len() < 20 {
+    if left.len() < 21 {
         return Ok(None);
     }
-    let Some(hash) = hash_in(&rest[..20]) else {
+    if left[0] != 20 {
         return Ok(None);
-    };
-    match types_in(alloc, &rest[20..])? {
-        Some(types) => Ok(Some(Next { hash, types })),
+    }
+    match types_in(alloc, &left[21..])? {
+        Some(types) => {
+            let hash = hash_of(&left[1..21]);
+            Ok(Some(Next { hash, types }))
+        }
         None => Ok(None),
     }
 }

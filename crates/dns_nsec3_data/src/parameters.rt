@@ -15,6 +15,9 @@ use std::alloc::Global;
 /// The type of the records with the parameters of a zone.
 const NSEC3PARAM: u16 = 51;
 
+/// The hash algorithm SHA-1 (RFC 5155, section 11).
+const SHA_1: u8 = 1;
+
 /// The flags, the number of additional iterations and the salt, and the octets behind them.
 #[derive(Drop)]
 pub(crate) struct Parameters<'a> {
@@ -36,16 +39,22 @@ pub(crate) fn parameters_in(octets: &[u8]) -> Option<Parameters<'_>>
     ensures { MatchOption result (BeginWithNoParameters octets.now)
         (λ p. BeginWithParameters octets.now p.flags (record { salt = p.salt.now; iterations = p.iterations }) p.left.now) }
 {
-    let [1, flags, high, low, size, rest @ ..] = octets else {
+    if octets.len() < 5 {
         return None;
-    };
-    let size = *size as usize;
+    }
+    let flags = octets[1];
+    let iterations = 256 * octets[2] as u16 + octets[3] as u16;
+    let size = octets[4] as usize;
+    let rest = &octets[5..];
+    if octets[0] != SHA_1 {
+        return None;
+    }
     if size > rest.len() {
         return None;
     }
     Some(Parameters {
-        flags: *flags,
-        iterations: 256 * *high as u16 + *low as u16,
+        flags,
+        iterations,
         salt: &rest[..size],
         left: &rest[size..],
     })
