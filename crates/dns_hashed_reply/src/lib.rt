@@ -20,6 +20,8 @@
 #![tactic(auto)]
 
 mod denials;
+mod laws;
 mod reply;
 
+pub use laws::{hashed_replies_are_accepted, nothing_without_do3};
 pub use reply::hashed_reply;
