@@ -1,6 +1,6 @@
 //! The NSEC3 records of a zone, with the RRSIGs that cover them, put aside and grouped by their owners.
 
-ghost use Rattle.std.specs.Prelude.{◌≡◌, ◌<◌, ◌≤◌, length, IfOk, MatchOption, MatchResult};
+ghost use Rattle.std.specs.Prelude.{◌≡◌, ◌<◌, ◌≤◌, ◌++◌, ◌∷◌, [], length, IfOk, MatchOption, MatchResult, OnOk};
 ghost use Rattle.std.specs.List.{slice_get};
 ghost use Rattle.dns_denial.specs.Hashes.{AreSorted3};
 ghost use Rattle.dns_nsec_data.specs.NsecData.{unknown_octets};
@@ -105,6 +105,14 @@ fn place_of(
     Ok(None)
 }
 
+/// Adds a record to a group.
+fn add_to(group: &mut Vec<Record>, resource: Record) -> Result<(), OutOfMemory>
+    ensures { OnOk result (group.new.items ≡ group.old.items ++ resource ∷ []) }
+{
+    group.push(resource)?;
+    Ok(())
+}
+
 /// The records of each NSEC3, in the order of hashes.
 pub(crate) fn grouped(
     alloc: Global,
@@ -121,7 +129,7 @@ pub(crate) fn grouped(
     let mut at = 0;
     'each: for resource in hashed {
         match place_of(alloc, apex, nsecs, &resource)? {
-            Some(place) => groups[place].push(resource)?,
+            Some(place) => add_to(&mut groups[place], resource)?,
             None => return Err(HashedChainError::Unowned(at)),
         }
         at += 1;
