@@ -93,7 +93,8 @@ pub(crate) fn served_reply(
     room: u16,
 ) -> Result<AdditionalBuilder, PushError>
     requires { IsTrue (ends_name question.now.qname (tree_of zone.now).apex) }
-    ensures { Builds (unlimited (zone_message query.now (served_reply (tree_of zone.now) (signing_of zone.now) room query.now question.now))) result }
+    ensures { Builds (unlimited (zone_message query.now
+        (served_reply (tree_of zone.now) (signing_of zone.now) room query.now question.now))) result }
 {
     match zone {
         ZoneData::Unsigned(tree) => name_server_reply(tree, alloc, query, question),

@@ -147,7 +147,8 @@ impl ServedZone {
     /// Its transfer, for a request that may ask for it.
     pub(crate) fn transfer<Meta>(&self, request: &Request<Meta>) -> Result<Transfer, OutOfMemory>
         requires { may_transfer self.now.allowed request.now ≡ true }
-        ensures { IfOk result (λ t. ⟦<Transfer as ReplyStream>⟧.answer t ≡ transfer (sent_of self.now.zone self.now.signing) request.now.octets) }
+        ensures { IfOk result (λ t. ⟦<Transfer as ReplyStream>⟧.answer t
+            ≡ transfer (sent_of self.now.zone self.now.signing) request.now.octets) }
     {
         match &self.bunches {
             Some(bunches) => {

@@ -71,7 +71,8 @@ Denies z OutOfMemory = Unit {0}
 
 -- the zone whose apex is the file's origin and whose records are those that the file writes
 abbrev pub IsWritten : List (List ℕ) → List ℕ → ZoneData → Type 0
-IsWritten apex text d = (records : List Record) × (zone_file apex text ≡ Ok records) × IsZoneOf (record { apex = apex; records = records }) d
+IsWritten apex text d = (records : List Record) × (zone_file apex text ≡ Ok records)
+    × IsZoneOf (record { apex = apex; records = records }) d
 
 -- why a zone file isn't served: the line that is refused, or why its records are no zone
 abbrev pub HasFault : List (List ℕ) → List ℕ → ZoneFault → Type 0

@@ -43,12 +43,12 @@ mod reply;
 mod rrsigs;
 mod step;
 
+pub use chain::plain_reply;
+pub use denials::gives;
 pub use laws::{
     chosen_are_given, nothing_without_do, replies_are_accepted, security_bits_are_clear,
     signing_adds_all, signing_adds_only,
 };
-pub use chain::plain_reply;
-pub use denials::gives;
 pub use plain::PlainReply;
 pub use records::{extended, of_node, owned_records};
 pub use reply::{asks_do, ds_of, in_room, secure_reply};

@@ -36,7 +36,11 @@ pub fn asks_do(query: &Message) -> bool
 }
 
 /// The DS records of the delegation point whose NS records an authority section begins with.
-pub fn ds_of(zone: &ZoneTree, alloc: Global, authority: &[Record]) -> Result<Vec<Record>, OutOfMemory>
+pub fn ds_of(
+    zone: &ZoneTree,
+    alloc: Global,
+    authority: &[Record],
+) -> Result<Vec<Record>, OutOfMemory>
     ensures { IfOk result (λ v. v.items ≡ ds_of zone.now authority.now) }
 {
     match authority.first() {
