@@ -17,6 +17,16 @@
 //! ```
 //!
 //! Nothing here makes or verifies a signature: zones are signed elsewhere.
+//!
+//! # What is to be proved (nothing here is, yet)
+//!
+//! - What is built is the message of `hashed_reply`, section for section (`specs/HashedReplies.antt`).
+//! - A validator accepts what the reply says of each name that it is asked for, if the chain has a proof at all and no hash collides
+//!   (`hashed_replies_are_accepted`). Without DO nothing is added (`nothing_without_do3`).
+//!
+//! # What a body could still get away with
+//!
+//! How often the zone is walked, how many hashes are made and how often records are copied.
 #![tactic(auto)]
 
 mod denials;

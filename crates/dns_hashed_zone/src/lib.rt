@@ -13,7 +13,17 @@
 //! else              -> Missing: the places of the closest provable encloser and of the next closer name
 //! ```
 //!
-//! A query costs one hash for each label from the name up to its closest provable encloser, and one for the wildcard.
+//! # What is to be proved (nothing here is, yet)
+//!
+//! - A `HashedZone` has a whole chain (`IsWhole3` of dns_denial), and its NSEC3s are those of its records. A refusal says the first
+//!   cause (`specs/MadeHashed.antt`, `specs/HashedChecks.antt`).
+//! - `search` and `near` find the NSEC3s that the definitions of RFC 5155, section 7.2.1, name (`specs/Searches.antt`).
+//!
+//! # What a body could still get away with
+//!
+//! How many hashes a call makes. By reading the code `search` makes one for each label from the name up to its closest provable
+//! encloser, that one too, and `near` makes one. The check of a chain makes one for each name at or above the owner of a record
+//! whose owner isn't that of the record before it.
 #![tactic(auto)]
 
 mod check;
