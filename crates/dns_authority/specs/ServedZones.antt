@@ -32,7 +32,7 @@ signing_of (Unsigned z) = Bare
 signing_of (Signed s) = WithNsecs s.nsecs
 signing_of (Hashed s) = WithNsec3s s.hashing s.nsec3s s.groups
 
--- all its records: those of its names, and behind them NSEC3 records with their RRSIGs
+-- all its records: those of its names, and after them NSEC3 records with their RRSIGs
 abbrev pub sent_of : ZoneState → Signing → ZoneState
 sent_of z Bare = z
 sent_of z (WithNsecs ns) = z

@@ -61,7 +61,7 @@ fn timers_among(records: &[Record]) -> Option<SoaTimers>
     None
 }
 
-/// So many records in few words, of which these are those of names.
+/// That many records in few words, of which these are those of names.
 fn summary_of(records: &[Record], count: usize) -> ZoneSummary
     ensures { result ≡ summary_of records.now count }
 {

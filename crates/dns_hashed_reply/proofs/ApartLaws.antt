@@ -1,4 +1,4 @@
--- Where no hash collides, the names that a name ends with have hashes of their own.
+-- If no hash collides, the names that a name ends with have hashes of their own.
 use Rattle.std.proofs.Common.{◌≡◌, ℕ, Bool, true, false, List, [], ◌∷◌, refl, ap, sym, subst, ◌∙◌, arith, inl, inr}
 use Rattle.std.specs.Prelude.{◌&&◌, ◌||◌, ◌⊎◌, not}
 use Rattle.std.specs.List.{Contains, list_any}
@@ -14,7 +14,7 @@ use Rattle.dns_denial.proofs.ListLaws.{found, present}
 use Rattle.dns_denial.proofs.NameLaws.{ends_cons, ends_trans, same_ends}
 use Rattle.dns_denial.proofs.ProvableLaws.{provable_cons, provable_here, same_hashes}
 
--- a name that another one ends with exists, where that does
+-- a name that another one ends with exists, if that does
 pub exists_up : (z : ZoneState) (a t : List (List ℕ)) → exists z a ≡ true → ends_name a t ≡ true → exists z t ≡ true
 exists_up z a t e k =
     let f = found (λ (r : Record). ends_name r.owner a) z.records e in

@@ -7,7 +7,7 @@ use Rattle.dns_hashed_zone.specs.Searches.{near_place}
 use Rattle.dns_hashed_reply.specs.HashedReplies.{behind_once, fails_at, places_of}
 use Rattle.dns_hashed_reply.specs.declared.denials.Chosen.{Chosen}
 
--- places are chosen behind those that were, each once; or it is said that a hash collides
+-- places are chosen after those that were, each once; or it is said that a hash collides
 pub record Adds (old new : Chosen) (failed : Bool) (ks : List ℕ) : Type 0 where
   pub said : new.collides ≡ (old.collides || failed)
   pub added : new.collides ≡ false → new.places.items ≡ behind_once old.places.items ks

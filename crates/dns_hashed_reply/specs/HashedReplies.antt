@@ -44,7 +44,7 @@ proved_within s t name =
     if exists s.zone name then (if is_given s.zone t name then [] else own_proof s name)
     else missing_proof s t name
 
--- of a referral the delegation point, where it has no DS (section 7.2.7); a DNAME record denies nothing
+-- of a referral the delegation point, if it has no DS (section 7.2.7); a DNAME record denies nothing
 abbrev pub proved_by : HashedState → ℕ → List (List ℕ) → Region → List (List (List ℕ))
 proved_by s t name Within = proved_within s t name
 proved_by s t name (BelowCut servers) = if are_some (asked_records s.zone (servers_owner servers) 43) then []
@@ -61,7 +61,7 @@ proved_names s t name = proved_by s t name (asked_region s.zone t name)
 abbrev pub collides : HashedState → List (List ℕ) → Bool
 collides s name = is_matched s.hashing s.nsec3s name && not (exists s.zone name)
 
--- so for a name that doesn't exist: its closest provable encloser, or the wildcard, where that is denied or has no records of the type
+-- so for a name that doesn't exist: its closest provable encloser, or the wildcard, if that is denied or has no records of the type
 abbrev pub fails_within : HashedState → ℕ → List (List ℕ) → Bool
 fails_within s t name = not (exists s.zone name)
     && (collides s (encloser_of s name) || (not (is_given s.zone t name) && collides s (wildcard_of s name)))
@@ -84,7 +84,7 @@ fails s q answers = list_any (fails_at s q.qtype) (asked_names s.zone q answers)
 abbrev pub places_of : HashedState → ℕ → List (List ℕ) → List ℕ
 places_of s t name = map (near_place s.hashing s.nsec3s) (proved_names s t name)
 
--- places behind others, each once
+-- places after others, each once
 abbrev pub behind_once : List ℕ → List ℕ → List ℕ
 behind_once seen [] = seen
 behind_once seen (k ∷ ks) = if list_any (nat_eq k) seen then behind_once seen ks else behind_once (seen ++ k ∷ []) ks
@@ -111,7 +111,7 @@ chosen3 s q answers = flat_map (λ (k : ℕ). nsec3_or_none (slice_get s.nsec3s 
 
 -- ---- the reply
 
--- the authority section with its DS records (RFC 4035, section 3.1.4) and RRSIGs, and behind it the NSEC3 records of places with theirs
+-- the authority section with its DS records (RFC 4035, section 3.1.4) and RRSIGs, and after it the NSEC3 records of places with theirs
 abbrev pub proved_authority3 : HashedState → List ℕ → ZoneReply → List Record
 proved_authority3 s ks r = with_rrsigs s.zone (r.authority ++ ds_of s.zone r.authority) ++ flat_map (group_at s) ks
 
@@ -132,7 +132,7 @@ failure = record { aa = false; rcode = 2; answers = []; authority = []; addition
 abbrev pub with_proofs : HashedState → ℕ → List ℕ → Question → ZoneReply → ZoneReply
 with_proofs s room o q r = if fails s q r.answers then failure else as_room room o r.additional (hashed_do_reply s q r)
 
--- the reply to a query's octets, where so many octets are room for additional signatures; the owners of NSEC3 records are no names, with
+-- the reply to a query's octets, if that many octets are room for additional signatures; the owners of NSEC3 records are no names, with
 -- DO or without (section 7.2.8)
 abbrev pub hashed_reply : HashedState → ℕ → List ℕ → Question → ZoneReply
 hashed_reply s room o q = let r = name_server_reply s.zone q in if asks_do o then with_proofs s room o q r else r

@@ -81,7 +81,7 @@ fn add_node(
     add_own(zone, alloc, name, chosen)
 }
 
-/// The wildcard below a name; none where it would be too long.
+/// The wildcard below a name; none if it would be too long.
 fn wildcard_below(alloc: Global, name: &NameRef<'_>) -> Result<Option<Name>, OutOfMemory>
     ensures { IfOk result (λ w. MatchOption w (253 < length (spell name.now)) (λ n. n ≡ star ∷ name.now)) }
 {
@@ -121,7 +121,7 @@ fn add_wildcard(
     add(chosen, near.place)
 }
 
-/// Adds the NSEC3s for a name that doesn't exist, whose closest encloser is behind so many labels, where a type is asked for.
+/// Adds the NSEC3s for a name that doesn't exist, whose closest encloser is after that many labels, where a type is asked for.
 fn add_missing(
     zone: &HashedZone,
     alloc: Global,

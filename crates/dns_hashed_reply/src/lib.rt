@@ -4,7 +4,7 @@
 //!   names of the zone: the owners of NSEC3 records are none (section 7.2.8).
 //!
 //! With DO each RRset of the answer and authority sections goes with its RRSIGs, and what the reply says is absent with the NSEC3
-//! records that prove it, each once, with their RRSIGs. RRSIGs of the additional section are given where the message stays within a
+//! records that prove it, each once, with their RRSIGs. RRSIGs of the additional section are given if the message stays within a
 //! size that the caller says.
 //!
 //! ```text

@@ -127,7 +127,7 @@ fn with_proofs(
 }
 
 /// The reply of a zone that is signed with NSEC3 to a question for a name at or below its apex, as it is built (RFC 5155, section
-/// 7.2). The RRSIGs of additional records are left out where the message would take more octets than there is room for.
+/// 7.2). The RRSIGs of additional records are left out if the message would take more octets than there is room for.
 pub fn hashed_reply(
     zone: &HashedZone,
     alloc: Global,

@@ -29,7 +29,7 @@ zone_names z name = filter (λ (s : List (List ℕ)). ends_name s z.apex) (names
 abbrev pub is_there3 : ZoneState → List (List ℕ) → ℕ → Bool
 is_there3 z name t = not (is_deniable t) || has_type z name t
 
--- the type of a record of the name is listed, where it is to be
+-- the type of a record of the name is listed, if it is to be
 abbrev pub lists_type : ZoneState → List (List ℕ) → Nsec3State → Record → Bool
 lists_type z name n r = not (is_owned name r && (is_deniable (data_type r.rdata) && has_type z name (data_type r.rdata)))
     || has n (data_type r.rdata)
@@ -47,7 +47,7 @@ is_held z h ns firm name = if is_matched h ns name then list_all (λ (n : Nsec3S
 abbrev pub are_held : ZoneState → Hashing → List Nsec3State → Bool → List (List ℕ) → Bool
 are_held z h ns firm name = list_all (is_held z h ns firm) (zone_names z name)
 
--- whether a record's names aren't so, where it isn't below a delegation point; or it is below a DNAME record (RFC 6672, section 2.4)
+-- whether a record's names aren't so, if it isn't below a delegation point; or it is below a DNAME record (RFC 6672, section 2.4)
 abbrev pub is_unlisted3 : ZoneState → Hashing → List Nsec3State → Record → Bool
 is_unlisted3 z h ns r = not (is_below_cut z r.owner) && (is_under_dname z r.owner || not (are_held z h ns (is_firm z r) r.owner))
 
@@ -62,7 +62,7 @@ is_unfounded3 z h n = not (list_any (λ (r : Record). is_met z h r n) z.records)
 
 -- ---- the order
 
--- the hash behind a place; behind the last one the first
+-- the hash after a place; after the last one the first
 abbrev pub hash_behind : List Nsec3State → ℕ → Nsec3State → List ℕ
 hash_behind ns k d = if nat_lt (k + 1) (length ns) then (slice_index_or ns (k + 1) d).hash else (slice_index_or ns 0 d).hash
 

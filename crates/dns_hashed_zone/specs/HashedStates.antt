@@ -27,7 +27,7 @@ pub record HashedState : Type 0 where
   pub nsec3s : List Nsec3State
   pub groups : List (List Record)
 
--- lists, one behind another
+-- lists, one after another
 abbrev pub joined : List (List Record) → List Record
 joined [] = []
 joined (rs ∷ rss) = rs ++ joined rss
@@ -52,7 +52,7 @@ pub record IsSigned3 (s : HashedState) : Type 0 where
   pub groups_ : AreGroups s.zone.apex s.nsec3s s.groups
   pub lawful : AreLawful (joined s.groups)
 
--- and so many are all
+-- and that many are all
 pub record IsKept (s : HashedState) (count : ℕ) : Type 0 where
   pub signed : IsSigned3 s
   pub counted : count ≡ length (all_records s)

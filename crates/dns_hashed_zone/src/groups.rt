@@ -73,7 +73,7 @@ pub(crate) fn parted(alloc: Global, records: Vec<Record>) -> Result<Parts, OutOf
     Ok(Parts { named, hashed })
 }
 
-/// No records for each of so many places.
+/// No records for each of that many places.
 fn empty_groups(alloc: Global, count: usize) -> Result<Vec<Vec<Record>>, OutOfMemory>
     ensures { IfOk result (λ v. length v.items ≡ count) }
 {

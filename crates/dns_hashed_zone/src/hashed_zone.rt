@@ -162,7 +162,7 @@ impl HashedZone {
         near_of(self.chain.nsecs(), alloc, &self.hashing, name)
     }
 
-    /// The NSEC3 record of a place, with its RRSIGs; none where there is no such place.
+    /// The NSEC3 record of a place, with its RRSIGs; none if there is no such place.
     pub fn group(&self, place: usize) -> Option<&[Record]>
         ensures { option_copied result ≡ slice_get self.now.groups place }
     {
@@ -179,7 +179,7 @@ impl HashedZone {
         self.count
     }
 
-    /// A copy of all its records: those of names, and behind them the NSEC3 records with their RRSIGs in the order of their hashes.
+    /// A copy of all its records: those of names, and after them the NSEC3 records with their RRSIGs in the order of their hashes.
     pub fn all_records(&self, alloc: Global) -> Result<Vec<Record>, OutOfMemory>
         ensures value { IfOk result (λ v. v.items ≡ all_records self.now) }
         ensures lawful { IfOk result (λ v. AreLawful v.items) }

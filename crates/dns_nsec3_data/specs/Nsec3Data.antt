@@ -22,7 +22,7 @@ use Rattle.dns_nsec3_data.specs.declared.nsec3_error.Nsec3Error.TheVariants.{Par
 abbrev pub parameters : ℕ → Hashing → List ℕ
 parameters flags h = 1 ∷ flags ∷ (two h.iterations ++ length h.salt ∷ h.salt)
 
--- octets that begin with parameters, and those behind them
+-- octets that begin with parameters, and those after them
 pub record BeginWithParameters (octets : List ℕ) (flags : ℕ) (h : Hashing) (left : List ℕ) : Type 0 where
   pub octets_ : octets ≡ parameters flags h ++ left
 
@@ -58,7 +58,7 @@ pub record IsMadeHashing (of h : Hashing) : Type 0 where
 
 -- ---- NSEC3
 
--- the hash that the first label of an owner is in base 32, where the apex is behind it (section 3)
+-- the hash that the first label of an owner is in base 32, where the apex is after it (section 3)
 abbrev pub owner_hash : List (List ℕ) → List (List ℕ) → Option (List ℕ)
 owner_hash apex [] = None
 owner_hash apex (l ∷ ls) = if same_name ls apex then base32_octets l else None
@@ -70,7 +70,7 @@ pub record HasHash (apex owner : List (List ℕ)) (o : List ℕ) : Type 0 where
   pub is : owner_hash apex owner ≡ Some o
   pub size : length o ≡ 20
 
--- "Hash Length | Next Hashed Owner Name | Type Bit Maps" (section 3.2) behind parameters, with a hash of 20 octets
+-- "Hash Length | Next Hashed Owner Name | Type Bit Maps" (section 3.2) after parameters, with a hash of 20 octets
 pub record SaysNext3 (left next types : List ℕ) : Type 0 where
   pub bits : List ℕ
   pub octets_ : left ≡ 20 ∷ (next ++ bits)
@@ -180,12 +180,12 @@ Fails3 apex rs NoMemory = Unit {0}
 
 -- ---- one record more
 
--- the NSEC3 of a record is kept; where there is none, so it is said
+-- the NSEC3 of a record is kept; if there is none, it says so
 abbrev pub KeepsOne3 : List (List ℕ) → Hashing → Record → List Nsec3State → List Nsec3State → Bool → Type 0
 KeepsOne3 apex h r old new false = (n : Nsec3State) × IsNsec3 apex h r n × (new ≡ old ++ n ∷ [])
 KeepsOne3 apex h r old new true = IsNoNsec3 apex h r
 
--- the NSEC3s of a record are kept, where it is no malformed one
+-- the NSEC3s of a record are kept, if it is no malformed one
 abbrev pub Keeps3 : List (List ℕ) → Hashing → Record → List Nsec3State → List Nsec3State → Bool → Type 0
 Keeps3 apex h r old new false = (ns : List Nsec3State) × AreNsec3s apex h (nsec3_records (r ∷ [])) ns × (new ≡ old ++ ns)
 Keeps3 apex h r old new true = (is_of 50 r ≡ true) × IsNoNsec3 apex h r

@@ -36,7 +36,7 @@ fn hash_of(octets: &[u8]) -> [u8; 20]
     hash
 }
 
-/// The octets of a hash as an array; none where they aren't 20.
+/// The octets of a hash as an array; none if they aren't 20.
 fn hash_in(octets: &[u8]) -> Option<[u8; 20]>
     ensures { MatchOption result (length octets.now ≢ 20) (λ h. h ≡ octets.now) }
 {
@@ -46,7 +46,7 @@ fn hash_in(octets: &[u8]) -> Option<[u8; 20]>
     Some(hash_of(octets))
 }
 
-/// The hash that the first label of an owner is in base 32, where the apex is behind it.
+/// The hash that the first label of an owner is in base 32, where the apex is after it.
 pub fn owner_hash(
     alloc: Global,
     apex: &Name,
@@ -67,7 +67,7 @@ pub fn owner_hash(
     }
 }
 
-/// What the data of an NSEC3 record says behind its parameters; none where octets are no such data.
+/// What the data of an NSEC3 record says after its parameters; none if octets are no such data.
 fn next_in(alloc: Global, left: &[u8]) -> Result<Option<Next>, OutOfMemory>
     ensures { IfOk result (λ o. MatchOption o (SaysNothing3 left.now) (λ d. SaysNext3 left.now d.hash d.types.items)) }
 {
@@ -94,7 +94,7 @@ fn is_for(found: &Parameters<'_>, param: &Param<'_>) -> bool
     found.flags <= OPT_OUT && found.iterations == param.iterations && found.salt == param.salt
 }
 
-/// The NSEC3 that a record is, for the parameters of a zone; none where it isn't one.
+/// The NSEC3 that a record is, for the parameters of a zone; none if it isn't one.
 pub(crate) fn nsec3_in(
     alloc: Global,
     apex: &Name,
@@ -130,7 +130,7 @@ fn is_nsec3(resource: &Record) -> bool
     resource.rdata.rtype().to_int() == NSEC3
 }
 
-/// Keeps the NSEC3 of a record. Gives true, and keeps none, where its data isn't that of one.
+/// Keeps the NSEC3 of a record. Gives true, and keeps none, if its data isn't that of one.
 fn keep_one(
     alloc: Global,
     apex: &Name,
@@ -150,7 +150,7 @@ fn keep_one(
     }
 }
 
-/// Keeps the NSEC3 of a record, if its type is NSEC3. Gives true where its data isn't that of one.
+/// Keeps the NSEC3 of a record, if its type is NSEC3. Gives true if its data isn't that of one.
 fn keep_nsec3(
     alloc: Global,
     apex: &Name,

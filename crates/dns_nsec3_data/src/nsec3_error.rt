@@ -9,7 +9,7 @@ use std::alloc::AllocError;
 /// Why the NSEC3 records of a list can't be taken as a chain: the first of these causes.
 #[derive(Clone, Copy, Debug)]
 pub enum Nsec3Error {
-    /// How many NSEC3PARAM records without flags there are at the apex, where it isn't one (RFC 5155, section 4.1.2).
+    /// How many NSEC3PARAM records without flags there are at the apex, if it isn't one (RFC 5155, section 4.1.2).
     Params(usize),
     /// That record has another algorithm than SHA-1, or data out of form.
     Param,

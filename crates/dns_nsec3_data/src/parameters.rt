@@ -18,7 +18,7 @@ const NSEC3PARAM: u16 = 51;
 /// The hash algorithm SHA-1 (RFC 5155, section 11).
 const SHA_1: u8 = 1;
 
-/// The flags, the number of additional iterations and the salt, and the octets behind them.
+/// The flags, the number of additional iterations and the salt, and the octets after them.
 #[derive(Drop)]
 pub(crate) struct Parameters<'a> {
     pub(crate) flags: u8,
@@ -70,7 +70,7 @@ pub(crate) fn unknown_octets(resource: &Record) -> &[u8]
     }
 }
 
-/// The octet of the flags, 0 where there is none.
+/// The octet of the flags, 0 if there is none.
 fn flags_of(octets: &[u8]) -> u8
     ensures { result ≡ slice_index octets.now 1 }
 {
