@@ -20,8 +20,8 @@ abbrev pub NothingWithoutDo3 : Type 0
 NothingWithoutDo3 = (s : HashedState) (room : ℕ) (o : List ℕ) (q : Question) → asks_do o ≡ false
     → hashed_reply s room o q ≡ name_server_reply s.zone q
 
--- Each absence is proved: what the reply says of each name that it is asked for is accepted with the NSEC3s that are chosen, where the
--- chain has a proof at all, and no hash collides.
+-- Each absence is proved, if the chain has a proof at all and no hash collides: what the reply says of each name that it is asked for
+-- is accepted with the NSEC3s that are chosen.
 abbrev pub HashedRepliesAreAccepted : Type 0
 HashedRepliesAreAccepted = (s : HashedState) (q : Question) (name : List (List ℕ)) → IsWhole3 s.zone s.hashing s.nsec3s
     → AreSorted3 s.nsec3s → ends_name q.qname s.zone.apex ≡ true

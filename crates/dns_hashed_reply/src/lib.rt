@@ -3,8 +3,8 @@
 //! - `hashed_reply` gives the reply of a `HashedZone` to a query and its question. Without DO it is that of dns_name_server for the
 //!   names of the zone: the owners of NSEC3 records are none (section 7.2.8).
 //!
-//! With DO each RRset of the answer and authority sections goes with its RRSIGs, and what the reply says is absent with the NSEC3
-//! records that prove it, each once, with their RRSIGs. RRSIGs of the additional section are given if the message stays within a
+//! With DO each RRset of the answer and authority sections goes with its RRSIGs. What the reply says is absent goes with the NSEC3
+//! records that prove it, each once, and their RRSIGs. RRSIGs of the additional section are given if the message stays within a
 //! size that the caller says.
 //!
 //! ```text
@@ -21,7 +21,7 @@
 //! # What is to be proved (nothing here is, yet)
 //!
 //! - What is built is the message of `hashed_reply`, section for section (`specs/HashedReplies.antt`).
-//! - A validator accepts what the reply says of each name that it is asked for, if the chain has a proof at all and no hash collides
+//! - If the chain has a proof at all and no hash collides, a validator accepts what the reply says of each name that it is asked for
 //!   (`hashed_replies_are_accepted`). Without DO nothing is added (`nothing_without_do3`).
 //!
 //! # What a body could still get away with

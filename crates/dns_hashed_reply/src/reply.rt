@@ -126,8 +126,8 @@ fn with_proofs(
     in_room(alloc, query, &signed, unsigned, room)
 }
 
-/// The reply of a zone that is signed with NSEC3 to a question for a name at or below its apex, as it is built (RFC 5155, section
-/// 7.2). The RRSIGs of additional records are left out if the message would take more octets than there is room for.
+/// The reply, as it is built, of a zone that is signed with NSEC3 (RFC 5155, section 7.2). The question is for a name at or below its
+/// apex. The RRSIGs of additional records are left out if the message would take more octets than there is room for.
 pub fn hashed_reply(
     zone: &HashedZone,
     alloc: Global,

@@ -21,9 +21,9 @@
 //!
 //! # What a body could still get away with
 //!
-//! How many hashes a call makes. By reading the code `search` makes one for each label from the name up to its closest provable
-//! encloser, that one too, and `near` makes one. The check of a chain makes one for each name at or above the owner of a record
-//! whose owner isn't that of the record before it.
+//! How many hashes a call makes. By reading the code `search` makes one for each name from the one asked up to its closest
+//! provable encloser, and `near` makes one. The check of a chain makes one for each name at or above the owner of a record. It
+//! makes none for a record with the owner of the one before it.
 #![tactic(auto)]
 
 mod check;

@@ -43,15 +43,6 @@ fn sorted(nsecs: Vec<Nsec3>) -> Result<Vec<Nsec3>, OutOfMemory>
     Ok(nsecs)
 }
 
-/// The chain of NSEC3s.
-fn chained(hashing: Hashing, nsecs: Vec<Nsec3>) -> Result<HashedNames, Nsec3Error> {
-    let nsecs = sorted(nsecs)?;
-    match HashedChain::of(nsecs) {
-        Some(chain) => Ok(HashedNames { hashing, chain }),
-        None => Err(Nsec3Error::Twice),
-    }
-}
-
 /// The hashing and the chain of a zone that begins at an apex and has these records.
 pub fn hashed_names_in(
     alloc: Global,
@@ -63,5 +54,9 @@ pub fn hashed_names_in(
     let param = param_in(apex, records)?;
     let hashing = hashing_of(alloc, &param)?;
     let nsecs = nsec3s_in(alloc, apex, &param, records)?;
-    chained(hashing, nsecs)
+    let nsecs = sorted(nsecs)?;
+    match HashedChain::of(nsecs) {
+        Some(chain) => Ok(HashedNames { hashing, chain }),
+        None => Err(Nsec3Error::Twice),
+    }
 }

@@ -15,8 +15,8 @@ pub enum Nsec3Error {
     Param,
     /// Its number of iterations or its salt is refused.
     Hashing(HashingError),
-    /// The place in the list of the first NSEC3 record that is none for these parameters: an owner that is no hash below the apex,
-    /// another algorithm, salt or number of iterations, an unknown flag, a hash of a wrong length, or bit maps out of form.
+    /// The place in the list of the first NSEC3 record that is none for these parameters. Its owner is no hash below the apex; or its
+    /// algorithm, salt or number of iterations is another. Or it has an unknown flag, a hash of a wrong length, or bit maps out of form.
     Malformed(usize),
     /// Two of them have one hash.
     Twice,

@@ -125,13 +125,16 @@ pub(crate) fn param_in<'a>(apex: &Name, records: &'a [Record]) -> Result<Param<'
         (Fails3 apex.now records.now) }
 {
     let resource = sole_used(apex, records)?;
-    match parameters_in(unknown_octets(resource)) {
-        Some(found) if found.left.is_empty() => Ok(Param {
-            iterations: found.iterations,
-            salt: found.salt,
-        }),
-        _ => Err(Nsec3Error::Param),
+    let Some(found) = parameters_in(unknown_octets(resource)) else {
+        return Err(Nsec3Error::Param);
+    };
+    if !found.left.is_empty() {
+        return Err(Nsec3Error::Param);
     }
+    Ok(Param {
+        iterations: found.iterations,
+        salt: found.salt,
+    })
 }
 
 /// The hashing of a zone with these records.
