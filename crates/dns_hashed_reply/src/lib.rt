@@ -21,7 +21,7 @@
 //! # What is to be proved (nothing here is, yet)
 //!
 //! - What is built is the message of `hashed_reply`, section for section (`specs/HashedReplies.antt`).
-//! - If the chain has a proof at all and no hash collides, a validator accepts what the reply says of each name that it is asked for
+//! - If the chain has a proof at all and no hash collides, a validator accepts what the reply says of each name
 //!   (`hashed_replies_are_accepted`). Without DO nothing is added (`nothing_without_do3`).
 //!
 //! # What a body could still get away with

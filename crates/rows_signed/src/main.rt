@@ -4,8 +4,8 @@
 //! - `signed` makes a zone of an apex, records and NSECs (an owner, a next name and types, parted by `:`, `+` and commas), and
 //!   says the owners of those that deny what is asked for: names and types. `secured` does so with the NSECs that are among the
 //!   records.
-//! - `hashed` makes a zone of an apex and records with NSEC3 records, and says its replies to queries, each with the octets that there
-//!   are room for.
+//! - `replied` makes a zone as `secured` does, and says its replies to queries. Each has the octets that there are room for.
+//! - `hashed` does so with a zone of NSEC3 records.
 //! - `types` reads type bit maps (RFC 4034, section 4.1.2).
 //!
 //! The program prints each row that doesn't hold, and how many there were.
