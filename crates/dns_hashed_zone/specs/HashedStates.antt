@@ -1,5 +1,5 @@
 -- A zone that is signed with NSEC3, and its records in two lists.
-use Rattle.std.specs.Prelude.{ℕ, ◌≡◌, ◌+◌, ◌*◌, nat_eq, slice_index, Bool, ◌&&◌, ◌||◌, not, List, [], ◌∷◌, ◌++◌, length, map, Some}
+use Rattle.std.specs.Prelude.{ℕ, zero, suc, ◌≡◌, Bool, ◌||◌, not, List, [], ◌∷◌, ◌++◌, length, map, Some}
 use Rattle.std.specs.List.{AllByRecursion, filter}
 use Rattle.std.specs.List.Sorted.{IsPermutation}
 use Rattle.std.specs.declared.vec.Vec.{Vec}
@@ -57,10 +57,6 @@ pub record IsKept (s : HashedState) (count : ℕ) : Type 0 where
   pub signed : IsSigned3 s
   pub counted : count ≡ length (all_records s)
 
--- the type that octets say an RRSIG covers
-abbrev pub begins_with_nsec3 : List ℕ → Bool
-begins_with_nsec3 o = nat_eq (256 * slice_index o 0 + slice_index o 1) 50
-
 -- records that were parted, and grouped: for each NSEC3 those of its owner
 pub record ArePartsOf (rs named_ hashed_ : List Record) : Type 0 where
   pub named_is : named_ ≡ named_records rs
@@ -69,6 +65,17 @@ pub record ArePartsOf (rs named_ hashed_ : List Record) : Type 0 where
 pub record AreGroupsOf (apex : List (List ℕ)) (ns : List Nsec3State) (rs : List Record) (gs : List (List Record)) : Type 0 where
   pub groups_ : AreGroups apex ns gs
   pub all : IsPermutation rs (joined gs)
+
+-- a record more in the group at a place
+abbrev pub with_record : ℕ → Record → List (List Record) → List (List Record)
+with_record k r [] = []
+with_record zero r (g ∷ gs) = (g ++ r ∷ []) ∷ gs
+with_record (suc k) r (g ∷ gs) = g ∷ with_record k r gs
+
+-- a list of records for each of so many NSEC3s, none with a record
+pub record AreEmpty (gs : List (List Record)) (count : ℕ) : Type 0 where
+  pub many : length gs ≡ count
+  pub none : joined gs ≡ []
 
 abbrev pub items_of : List (Vec Record Global) → List (List Record)
 items_of vs = map (λ (v : Vec Record Global). v.items) vs

@@ -1,10 +1,9 @@
 //! The NSEC3 records of a zone, with the RRSIGs that cover them, put aside and grouped by their owners.
 
-ghost use Rattle.std.specs.Prelude.{◌≡◌, ◌<◌, ◌≤◌, ◌++◌, ◌∷◌, [], length, IfOk, MatchOption, MatchResult, OnOk};
-ghost use Rattle.std.specs.List.{slice_get};
+ghost use Rattle.std.specs.Prelude.{◌≡◌, ◌<◌, ◌+◌, ◌*◌, ◌++◌, ◌∷◌, [], length, slice_index, vec_len, IfOk, MatchResult, OnOk};
 ghost use Rattle.dns_denial.specs.Hashes.{AreSorted3};
-ghost use Rattle.dns_nsec_data.specs.NsecData.{unknown_octets};
-ghost use Rattle.dns_hashed_zone.specs.HashedStates.{AreGroupsOf, ArePartsOf, begins_with_nsec3, is_hashed, items_of};
+ghost use Rattle.dns_denial.specs.Signed.{type_covered};
+ghost use Rattle.dns_hashed_zone.specs.HashedStates.{AreEmpty, AreGroupsOf, ArePartsOf, hashed_records, is_hashed, items_of, named_records, with_record};
 ghost use Rattle.dns_hashed_zone.specs.MadeHashed.{GivesPlace, IsUnownedAt};
 
 use crate::hashed_zone_error::HashedChainError;
@@ -30,23 +29,31 @@ pub(crate) struct Parts {
     pub(crate) hashed: Vec<Record>,
 }
 
-/// The octets of data whose form isn't read.
-fn octets_of(resource: &Record) -> &[u8]
-    ensures { result.now ≡ unknown_octets resource.now.rdata }
+/// The octet at a place, or 0 if there is none.
+fn octet_at(octets: &[u8], place: usize) -> u8
+    ensures { result ≡ slice_index octets.now place }
 {
-    match &resource.rdata {
-        RecordData::Unknown { octets, .. } => octets.as_slice(),
-        _ => &[],
+    if place < octets.len() {
+        return octets[place];
     }
+    0
 }
 
-/// Whether octets begin with the number of the type NSEC3.
-fn begin_with_nsec3(octets: &[u8]) -> bool
-    ensures { result ≡ begins_with_nsec3 octets.now }
+/// The number of the first two octets; those that lack are 0.
+fn leading_number(octets: &[u8]) -> u16
+    ensures { result ≡ 256 * slice_index octets.now 0 + slice_index octets.now 1 }
 {
-    let high = octets.first().copied().unwrap_or(0);
-    let low = octets.get(1).copied().unwrap_or(0);
-    256 * high as u16 + low as u16 == NSEC3
+    256 * octet_at(octets, 0) as u16 + octet_at(octets, 1) as u16
+}
+
+/// The type that an RRSIG covers (RFC 4034, section 3.1.1).
+fn type_covered(rdata: &RecordData) -> u16
+    ensures { result ≡ type_covered rdata.now }
+{
+    match rdata {
+        RecordData::Unknown { octets, .. } => leading_number(octets.as_slice()),
+        _ => 0,
+    }
 }
 
 /// Whether a record is an NSEC3 record, or an RRSIG that covers one.
@@ -54,7 +61,24 @@ fn is_hashed(resource: &Record) -> bool
     ensures { result ≡ is_hashed resource.now }
 {
     let rtype = resource.rdata.rtype().to_int();
-    rtype == NSEC3 || (rtype == RRSIG && begin_with_nsec3(octets_of(resource)))
+    rtype == NSEC3 || (rtype == RRSIG && type_covered(&resource.rdata) == NSEC3)
+}
+
+/// Adds a record to one of two lists.
+fn part(
+    resource: Record,
+    named: &mut Vec<Record>,
+    hashed: &mut Vec<Record>,
+) -> Result<(), OutOfMemory>
+    ensures named { OnOk result (named.new.items ≡ named.old.items ++ named_records (resource ∷ [])) }
+    ensures hashed { OnOk result (hashed.new.items ≡ hashed.old.items ++ hashed_records (resource ∷ [])) }
+{
+    if is_hashed(&resource) {
+        hashed.push(resource)?;
+        return Ok(());
+    }
+    named.push(resource)?;
+    Ok(())
 }
 
 /// Parts records.
@@ -64,21 +88,17 @@ pub(crate) fn parted(alloc: Global, records: Vec<Record>) -> Result<Parts, OutOf
     let mut named = Vec::new(alloc);
     let mut hashed = Vec::new(alloc);
     'each: for resource in records {
-        if is_hashed(&resource) {
-            hashed.push(resource)?;
-        } else {
-            named.push(resource)?;
-        }
+        part(resource, &mut named, &mut hashed)?;
     }
     Ok(Parts { named, hashed })
 }
 
 /// No records for each of that many places.
 fn empty_groups(alloc: Global, count: usize) -> Result<Vec<Vec<Record>>, OutOfMemory>
-    ensures { IfOk result (λ v. length v.items ≡ count) }
+    ensures { IfOk result (λ v. AreEmpty (items_of v.items) count) }
 {
     let mut groups = Vec::new(alloc);
-    'each: for _ in 0..count {
+    'each: for made in 0..count {
         groups.push(Vec::new(alloc))?;
     }
     Ok(groups)
@@ -105,11 +125,12 @@ fn place_of(
     Ok(None)
 }
 
-/// Adds a record to a group.
-fn add_to(group: &mut Vec<Record>, resource: Record) -> Result<(), OutOfMemory>
-    ensures { OnOk result (group.new.items ≡ group.old.items ++ resource ∷ []) }
+/// Adds a record to the group at a place.
+fn add_to(groups: &mut Vec<Vec<Record>>, place: usize, resource: Record) -> Result<(), OutOfMemory>
+    requires { place < vec_len groups.old }
+    ensures { OnOk result (items_of groups.new.items ≡ with_record place resource (items_of groups.old.items)) }
 {
-    group.push(resource)?;
+    groups[place].push(resource)?;
     Ok(())
 }
 
@@ -129,7 +150,7 @@ pub(crate) fn grouped(
     let mut at = 0;
     'each: for resource in hashed {
         match place_of(alloc, apex, nsecs, &resource)? {
-            Some(place) => add_to(&mut groups[place], resource)?,
+            Some(place) => add_to(&mut groups, place, resource)?,
             None => return Err(HashedChainError::Unowned(at)),
         }
         at += 1;
