@@ -5,10 +5,11 @@ use Rattle.std.specs.List.Sorted.{IsPermutation}
 use Rattle.dns_message.specs.declared.record.Record.{Record}
 use Rattle.dns_zone.specs.Owned.{ZoneState}
 use Rattle.dns_zone_tree.specs.TreeErrors.{Makes, tree_error}
-use Rattle.dns_denial.specs.Nsec3.{Hashing, Nsec3State}
+use Rattle.dns_denial.specs.Nsec3.{Hashing, IsChained3, Nsec3State}
 use Rattle.dns_nsec3_data.specs.Nsec3Data.{Fails3, IsChain3Of, IsHashing, owner_hash}
+use Rattle.dns_nsec3_data.specs.declared.chain3_data.HashedNames.{HashedNames}
 use Rattle.dns_hashed_zone.specs.HashedChecks.{Breaks3}
-use Rattle.dns_hashed_zone.specs.HashedStates.{HashedState, hashed_records, joined, named_records}
+use Rattle.dns_hashed_zone.specs.HashedStates.{AreGroupsOf, HashedState, hashed_records, joined, named_records}
 use Rattle.dns_hashed_zone.specs.declared.hashed_zone_error.HashedChainError.{HashedChainError}
 use Rattle.dns_hashed_zone.specs.declared.hashed_zone_error.HashedChainError.TheVariants.{Unlisted, Unfounded, Unlinked, Unowned, OutOfMemory as NoMemory}
 use Rattle.dns_hashed_zone.specs.declared.hashed_zone_error.HashedZoneError.{HashedZoneError}
@@ -48,20 +49,40 @@ IsUnownedAt apex ns rs (Unfounded i) = ⊥
 IsUnownedAt apex ns rs (Unlinked i) = ⊥
 IsUnownedAt apex ns rs NoMemory = Unit {0}
 
--- why the chain isn't whole, or that a record has no NSEC3
-abbrev pub BreaksAt : ZoneState → Hashing → List Nsec3State → HashedChainError → Type 0
-BreaksAt z h ns (Unowned i) = IsUnowned z.apex ns (hashed_records z.records) i
-BreaksAt z h ns (Unlisted i) = Breaks3 (named z) h ns (Unlisted i)
-BreaksAt z h ns (Unfounded i) = Breaks3 (named z) h ns (Unfounded i)
-BreaksAt z h ns (Unlinked i) = Breaks3 (named z) h ns (Unlinked i)
-BreaksAt z h ns NoMemory = Unit {0}
+-- ---- a zone of names with a chain
+
+-- the chain is whole, and the records are grouped
+pub record IsGrouped (z : ZoneState) (h : Hashing) (ns : List Nsec3State) (rs : List Record) (gs : List (List Record)) : Type 0 where
+  pub chain : IsChained3 z h ns
+  pub groups_ : AreGroupsOf z.apex ns rs gs
+
+-- where the chain isn't whole, or that a record has no NSEC3
+abbrev pub IsBroken : ZoneState → Hashing → List Nsec3State → List Record → HashedChainError → Type 0
+IsBroken z h ns rs (Unowned i) = IsUnowned z.apex ns rs i
+IsBroken z h ns rs (Unlisted i) = Breaks3 z h ns (Unlisted i)
+IsBroken z h ns rs (Unfounded i) = Breaks3 z h ns (Unfounded i)
+IsBroken z h ns rs (Unlinked i) = Breaks3 z h ns (Unlinked i)
+IsBroken z h ns rs NoMemory = Unit {0}
+
+pub record IsChainedAs3 (z : ZoneState) (names : HashedNames) (rs : List Record) (s : HashedState) : Type 0 where
+  pub zone : s.zone ≡ z
+  pub hashing_ : s.hashing ≡ names.hashing
+  pub nsec3s_ : s.nsec3s ≡ names.chain
+  pub groups_ : AreGroupsOf z.apex names.chain rs s.groups
+
+abbrev pub IsRefusedAs3 : ZoneState → HashedNames → List Record → HashedZoneError → Type 0
+IsRefusedAs3 z names rs (Nsec3 e) = ⊥
+IsRefusedAs3 z names rs (Tree e) = ⊥
+IsRefusedAs3 z names rs (Chain e) = IsBroken z names.hashing names.chain rs e
+
+-- ---- refusals
 
 pub record BreaksChain (z : ZoneState) (e : HashedChainError) : Type 0 where
   pub hashing : Hashing
   pub is : IsHashing z.apex z.records hashing
   pub nsec3s : List Nsec3State
   pub chain : IsChain3Of z.apex hashing z.records nsec3s
-  pub breaks : BreaksAt z hashing nsec3s e
+  pub breaks : IsBroken (named z) hashing nsec3s (hashed_records z.records) e
 
 -- why records are no such zone
 abbrev pub Refuses3 : ZoneState → HashedZoneError → Type 0

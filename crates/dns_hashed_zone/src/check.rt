@@ -222,7 +222,6 @@ fn are_held(
 ) -> Result<bool, OutOfMemory>
     requires zone { tree_error zone.now.apex zone.now.records ≡ None }
     requires sorted { AreSorted3 nsecs.now }
-    requires some { 0 < length nsecs.now }
     requires rooted { rooted ≡ is_matched hashing.now nsecs.now zone.now.apex }
     requires inside { IsTrue (ends_name name.now zone.now.apex) }
     requires stands { IsStanding zone.now name.now }
@@ -268,7 +267,6 @@ fn is_listed_at(
 ) -> Result<bool, OutOfMemory>
     requires zone { tree_error zone.now.apex zone.now.records ≡ None }
     requires sorted { AreSorted3 nsecs.now }
-    requires some { 0 < length nsecs.now }
     requires rooted { rooted ≡ is_matched hashing.now nsecs.now zone.now.apex }
     requires one { Contains zone.now.records resource.now }
     requires many { length met.old ≡ length nsecs.now }
@@ -313,7 +311,6 @@ fn first_unlisted(
 ) -> Result<Option<usize>, OutOfMemory>
     requires zone { tree_error zone.now.apex zone.now.records ≡ None }
     requires sorted { AreSorted3 nsecs.now }
-    requires some { 0 < length nsecs.now }
     requires rooted { rooted ≡ is_matched hashing.now nsecs.now zone.now.apex }
     requires none { met.old ≡ map (λ _. false) nsecs.now }
     ensures listed { IfOk result (λ o. o ≡ position (is_unlisted3 zone.now hashing.now nsecs.now) zone.now.records) }
@@ -329,6 +326,23 @@ fn first_unlisted(
         }
     }
     Ok(None)
+}
+
+/// Whether a name has an NSEC3.
+fn has_nsec3(
+    nsecs: &[Nsec3],
+    alloc: Global,
+    hashing: &Hashing,
+    name: &NameRef<'_>,
+) -> Result<bool, OutOfMemory>
+    requires { AreSorted3 nsecs.now }
+    ensures { IfOk result (λ b. b ≡ is_matched hashing.now nsecs.now name.now) }
+{
+    if nsecs.is_empty() {
+        return Ok(false);
+    }
+    let near = near_of(nsecs, alloc, hashing, name)?;
+    Ok(near.matched)
 }
 
 /// The hash after a place; after the last one the first.
@@ -379,19 +393,11 @@ pub(crate) fn checked(
 ) -> Result<(), HashedChainError>
     requires zone { tree_error zone.now.apex zone.now.records ≡ None }
     requires sorted { AreSorted3 nsecs.now }
-    requires some { 0 < length nsecs.now }
     ensures { MatchResult result (λ _. IsChained3 zone.now hashing.now nsecs.now) (Breaks3 zone.now hashing.now nsecs.now) }
 {
     let mut met = vec![in alloc; false; nsecs.len()]?;
-    let root = near_of(nsecs, alloc, hashing, &zone.apex().for_ref())?;
-    let unlisted = first_unlisted(
-        zone,
-        alloc,
-        hashing,
-        nsecs,
-        root.matched,
-        met.as_mut_slice(),
-    )?;
+    let rooted = has_nsec3(nsecs, alloc, hashing, &zone.apex().for_ref())?;
+    let unlisted = first_unlisted(zone, alloc, hashing, nsecs, rooted, met.as_mut_slice())?;
     if let Some(index) = unlisted {
         return Err(HashedChainError::Unlisted(index));
     }

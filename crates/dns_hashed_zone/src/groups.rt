@@ -111,10 +111,12 @@ fn place_of(
     nsecs: &[Nsec3],
     resource: &Record,
 ) -> Result<Option<usize>, OutOfMemory>
-    requires sorted { AreSorted3 nsecs.now }
-    requires some { 0 < length nsecs.now }
+    requires { AreSorted3 nsecs.now }
     ensures { IfOk result (GivesPlace apex.now nsecs.now resource.now) }
 {
+    if nsecs.is_empty() {
+        return Ok(None);
+    }
     let Some(hash) = owner_hash(alloc, apex, &resource.owner.for_ref())? else {
         return Ok(None);
     };
@@ -141,8 +143,7 @@ pub(crate) fn grouped(
     nsecs: &[Nsec3],
     hashed: Vec<Record>,
 ) -> Result<Vec<Vec<Record>>, HashedChainError>
-    requires sorted { AreSorted3 nsecs.now }
-    requires some { 0 < length nsecs.now }
+    requires { AreSorted3 nsecs.now }
     ensures { MatchResult result (λ v. AreGroupsOf apex.now nsecs.now hashed.items (items_of v.items))
         (λ e. IsUnownedAt apex.now nsecs.now hashed.items e) }
 {

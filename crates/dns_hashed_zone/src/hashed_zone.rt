@@ -1,13 +1,14 @@
 //! A zone that is signed with NSEC3.
 
-ghost use Rattle.std.specs.Prelude.{◌≡◌, ◌++◌, length, IfOk, IsTrue, MatchResult, OnOk};
+ghost use Rattle.std.specs.Prelude.{◌≡◌, ◌+◌, ◌++◌, length, None, IfOk, IsTrue, MatchResult, OnOk};
 ghost use Rattle.std.specs.List.{slice_get};
 ghost use Rattle.std.specs.Option.{option_copied};
 ghost use Rattle.dns_route.specs.Routes.{ends_name};
 ghost use Rattle.dns_zone.specs.Owned.{AreLawful};
+ghost use Rattle.dns_zone_tree.specs.TreeErrors.{tree_error};
 ghost use Rattle.dns_denial.specs.Nsec3.{IsWhole3, is_matched};
-ghost use Rattle.dns_hashed_zone.specs.HashedStates.{all_records};
-ghost use Rattle.dns_hashed_zone.specs.MadeHashed.{IsMadeOf3, Refuses3};
+ghost use Rattle.dns_hashed_zone.specs.HashedStates.{all_records, items_of};
+ghost use Rattle.dns_hashed_zone.specs.MadeHashed.{IsBroken, IsChainedAs3, IsGrouped, IsMadeOf3, IsRefusedAs3, Refuses3};
 ghost use Rattle.dns_hashed_zone.specs.Searches.{IsFound, near_place};
 
 use crate::check::checked;
@@ -55,6 +56,23 @@ fn add_records(alloc: Global, records: &[Record], into: &mut Vec<Record>) -> Res
     Ok(())
 }
 
+/// The records of each NSEC3 of a chain that is whole.
+fn groups_of(
+    alloc: Global,
+    zone: &ZoneTree,
+    hashing: &Hashing,
+    chain: &HashedChain,
+    hashed: Vec<Record>,
+) -> Result<Vec<Vec<Record>>, HashedChainError>
+    requires { tree_error zone.now.apex zone.now.records ≡ None }
+    ensures { MatchResult result (λ v. IsGrouped zone.now hashing.now chain.now hashed.items (items_of v.items))
+        (IsBroken zone.now hashing.now chain.now hashed.items) }
+{
+    let nsecs = chain.nsecs();
+    checked(zone, alloc, hashing, nsecs)?;
+    grouped(alloc, zone.apex(), nsecs, hashed)
+}
+
 /// The zone of names with its chain, and the records of that.
 fn chained(
     alloc: Global,
@@ -62,7 +80,12 @@ fn chained(
     names: HashedNames,
     hashed: Vec<Record>,
     count: usize,
-) -> Result<HashedZone, HashedZoneError> {
+) -> Result<HashedZone, HashedZoneError>
+    requires zone { tree_error zone.apex zone.records ≡ None }
+    requires lawful { AreLawful hashed.items }
+    requires count { count ≡ length zone.records + length hashed.items }
+    ensures { MatchResult result (λ s. IsChainedAs3 zone names hashed.items s) (IsRefusedAs3 zone names hashed.items) }
+{
     let HashedNames { hashing, chain } = names;
     match groups_of(alloc, &zone, &hashing, &chain, hashed) {
         Ok(groups) => Ok(HashedZone {
@@ -74,22 +97,6 @@ fn chained(
         }),
         Err(error) => Err(HashedZoneError::Chain(error)),
     }
-}
-
-/// The records of each NSEC3 of a chain that is whole.
-fn groups_of(
-    alloc: Global,
-    zone: &ZoneTree,
-    hashing: &Hashing,
-    chain: &HashedChain,
-    hashed: Vec<Record>,
-) -> Result<Vec<Vec<Record>>, HashedChainError> {
-    let nsecs = chain.nsecs();
-    if nsecs.is_empty() {
-        return Err(HashedChainError::Unlisted(0));
-    }
-    checked(zone, alloc, hashing, nsecs)?;
-    grouped(alloc, zone.apex(), nsecs, hashed)
 }
 
 impl HashedZone {
