@@ -1,2 +1,4 @@
 pub mod PlaceLaws
 pub mod GroupLaws
+pub mod DownLaws
+pub mod MarkLaws

@@ -234,8 +234,11 @@ fn are_held(
     if !rooted {
         return Ok(false);
     }
-    let mut above = true;
-    let mut left = name.label_count() - zone.apex().label_count() + 1;
+    let mut left = name.label_count() - zone.apex().label_count();
+    let top = name.behind(left);
+    let Some(mut above) = held_at(zone, alloc, hashing, nsecs, &top, firm, true, met)? else {
+        return Ok(false);
+    };
     'labels: while left > 0 {
         left -= 1;
         let one = name.behind(left);
