@@ -19,7 +19,7 @@ use Rattle.dns_denial.specs.Denials.{CanBeDenied, HasNone, IsAnswered, IsUnsigne
 use Rattle.dns_denial.specs.Nsec3.{AreApart, Hashing, IsApart, IsNear, IsWhole3, Nsec3State, at_encloser, closer, covers3, has, is_delegation3, is_matched, lacks3, matches3, next_closer, opts_out, proves_expansion3, proves_insecure3, proves_name_error3, proves_no_data3, proves_wildcard_no_data3, provable}
 use Rattle.dns_denial.proofs.AcceptedLaws.{had_some, is_ds, none_of, there, unsigned_at, unsigned_cut}
 use Rattle.dns_denial.proofs.ChainLaws.{answered_above}
-use Rattle.dns_denial.proofs.HashLaws.{Picked, at_missing, cut_exists, delegation_listed, inside, lacking, opted_out, other, own, unmatched}
+use Rattle.dns_denial.proofs.HashLaws.{Picked, at_missing, cut_exists, delegation_listed, inside, lacking, opted_out, other, own, unmatched, wild_inside}
 use Rattle.dns_denial.proofs.ProvableLaws.{any_matched, closer_here, closer_up, provable_above, provable_cons, provable_here, shape, up_step}
 use Rattle.dns_denial.proofs.ListLaws.{found, present, some_any}
 use Rattle.dns_denial.proofs.NameLaws.{ends_itself, ends_short, ends_trans, same_back, same_ends, same_itself, same_trans}
@@ -170,7 +170,7 @@ module _ (z : ZoneState) (h : Hashing) (ns chosen : List Nsec3State) (t : ℕ) (
               let b : HasNone z name 43 = subst (HasNone z name) (is_ds z start t name k r) (none_of z t name true e f) in
               let u : IsUnsigned z name = unsigned_at z start t name k r b in
               let listed : (s : ℕ) → IsDeniable s → list_any (is_record_at name s) z.records ≡ false → has a.0 s ≡ false = λ s p g.
-              w.chain.types a.0 a.2.one name e r.first m s p ∙ and_left (list_any (is_record_at name s) z.records) (not (is_cut_off z name) || (nat_eq s 2 || nat_eq s 43)) g in
+              w.chain.types a.0 a.2.one name within e r.first m s p ∙ and_left (list_any (is_record_at name s) z.records) (not (is_cut_off z name) || (nat_eq s 2 || nat_eq s 43)) g in
               let six : has a.0 6 ≡ false = listed 6 (refl, refl) (no_soa z start name u.inner) in
               let five : has a.0 5 ≡ false = listed 5 (refl, refl) (not_at z name 5 b.alias) in
               let ds : has a.0 43 ≡ false = listed 43 (refl, refl) u.unsigned in
@@ -196,7 +196,7 @@ module _ (z : ZoneState) (h : Hashing) (ns chosen : List Nsec3State) (t : ℕ) (
       no_type f e = by_match (cases_Bool (is_matched h ns name))
         where
           by_match : (is_matched h ns name ≡ true) ⊎ (is_matched h ns name ≡ false) → proves_no_data3 h chosen name t ≡ true
-          by_match (inl q) = let a = chosen_own z h ns chosen w name c q in shown a.0 a.1 (lacking z h ns w name t a.0 e k q (none_of z t name true e f) d a.2)
+          by_match (inl q) = let a = chosen_own z h ns chosen w name c q in shown a.0 a.1 (lacking z h ns w name t a.0 within e k q (none_of z t name true e f) d a.2)
           by_match (inr q) = left_out e q
 
       module _ (e : exists z name ≡ false) where
@@ -223,7 +223,7 @@ module _ (z : ZoneState) (h : Hashing) (ns chosen : List Nsec3State) (t : ℕ) (
             let m : is_matched h ns (star ∷ provable h ns name) ≡ true = subst (λ (y : List (List ℕ)). is_matched h ns y ≡ true) s l.1 in
             let u : is_cut_off z (star ∷ provable h ns name) ≡ false = wild_uncut z start (provable h ns name) (answered_above z name (provable h ns name) k (provable_above h ns name)) in
             at_missing z h ns w name chosen (λ (y : List (List ℕ)). list_any (λ (q : Nsec3State). matches3 h (star ∷ y) q && lacks3 t q) chosen) (picked z h ns chosen w name c none) within answered e o.above
-            (present (λ (q : Nsec3State). matches3 h (star ∷ provable h ns name) q && lacks3 t q) chosen b.0 b.1 (lacking z h ns w (star ∷ provable h ns name) t b.0 x u m n p b.2))
+            (present (λ (q : Nsec3State). matches3 h (star ∷ provable h ns name) q && lacks3 t q) chosen b.0 b.1 (lacking z h ns w (star ∷ provable h ns name) t b.0 (wild_inside z h ns w name within) x u m n p b.2))
           where
             never : (p q : Bool) → q ≡ false → (p && q) ≡ false
             never true q e = e

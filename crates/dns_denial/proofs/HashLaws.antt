@@ -34,7 +34,7 @@ module _ (z : ZoneState) (h : Hashing) (ns : List Nsec3State) (w : IsWhole3 z h 
   apex_matched =
       let f = found (is_record_at z.apex 6) z.records start.soa in
       let p = and_parts (is_owned z.apex f.one) (is_of 6 f.one) f.passes in
-      w.chain.held z.apex
+      w.chain.held z.apex (ends_itself z.apex)
       (present (λ (r : Record). ends_name r.owner z.apex && is_firm z r) z.records f.one f.there
       (and_from (ends_name f.one.owner z.apex) (is_firm z f.one) (same_ends f.one.owner z.apex p.0)
       (and_from (not (is_below_cut z f.one.owner)) (not (is_unsigned z f.one.owner)) (not_from_false (is_below_cut z f.one.owner) (not_below z f.one.owner (apex_whole f.one p.0)))
@@ -60,6 +60,19 @@ module _ (z : ZoneState) (h : Hashing) (ns : List Nsec3State) (w : IsWhole3 z h 
       by_cons ih (inl k) = or_left (is_matched h ns (l ∷ ls)) (any_matched h ns ls) (matched_as (l ∷ ls) z.apex k apex_matched)
       by_cons ih (inr k) = or_right (is_matched h ns (l ∷ ls)) (any_matched h ns ls) (ih k)
 
+  -- so does its closest provable encloser, and the wildcard below that
+  pub provable_inside : (name : List (List ℕ)) → ends_name name z.apex ≡ true → ends_name (provable h ns name) z.apex ≡ true
+  provable_inside [] e = e
+  provable_inside (l ∷ ls) e = by_matched (provable_inside ls) (cases_Bool (is_matched h ns (l ∷ ls))) (ends_cons l ls z.apex e)
+    where
+      by_matched : (ends_name ls z.apex ≡ true → ends_name (provable h ns ls) z.apex ≡ true) → (is_matched h ns (l ∷ ls) ≡ true) ⊎ (is_matched h ns (l ∷ ls) ≡ false) → (same_name (l ∷ ls) z.apex ≡ true) ⊎ (ends_name ls z.apex ≡ true) → ends_name (provable h ns (l ∷ ls)) z.apex ≡ true
+      by_matched ih (inl m) k = ap (λ (x : List (List ℕ)). ends_name x z.apex) (provable_here h ns (l ∷ ls) m) ∙ e
+      by_matched ih (inr m) (inl k) = absurd (true≢false (sym (matched_as (l ∷ ls) z.apex k apex_matched) ∙ m))
+      by_matched ih (inr m) (inr k) = ap (λ (x : List (List ℕ)). ends_name x z.apex) (provable_cons h ns l ls m) ∙ ih k
+
+  pub wild_inside : (name : List (List ℕ)) → ends_name name z.apex ≡ true → ends_name (star ∷ provable h ns name) z.apex ≡ true
+  wild_inside name e = ends_trans (star ∷ provable h ns name) (provable h ns name) z.apex (ends_tail star (provable h ns name)) (provable_inside name e)
+
   -- the one that is chosen for a name that has an NSEC3 is that
   pub own : (name : List (List ℕ)) (a : Nsec3State) → is_matched h ns name ≡ true → IsNear h ns name a → matches3 h name a ≡ true
   own name a k l = nearest_matches ns (hash_of h name) a l k
@@ -73,9 +86,9 @@ module _ (z : ZoneState) (h : Hashing) (ns : List Nsec3State) (w : IsWhole3 z h 
   pub unmatched : (name : List (List ℕ)) → exists z name ≡ false → IsApart z h ns name → is_matched h ns name ≡ false
   unmatched name e i = false_from_ne_true (is_matched h ns name) (λ k. true≢false (sym (i k) ∙ e))
 
-  pub typed : (name : List (List ℕ)) (a : Nsec3State) (t : ℕ) → Contains ns a → exists z name ≡ true → is_cut_off z name ≡ false → matches3 h name a ≡ true → IsDeniable t → has a t ≡ list_any (is_record_at name t) z.records
-  typed name a t c e k m o =
-      w.chain.types a c name e (not_below z name k) m t o
+  pub typed : (name : List (List ℕ)) (a : Nsec3State) (t : ℕ) → ends_name name z.apex ≡ true → Contains ns a → exists z name ≡ true → is_cut_off z name ≡ false → matches3 h name a ≡ true → IsDeniable t → has a t ≡ list_any (is_record_at name t) z.records
+  typed name a t i c e k m o =
+      w.chain.types a c name i e (not_below z name k) m t o
       ∙ at_end (list_any (is_record_at name t) z.records) (not (is_cut_off z name) || (nat_eq t 2 || nat_eq t 43)) (or_left (not (is_cut_off z name)) (nat_eq t 2 || nat_eq t 43) (not_from_false (is_cut_off z name) k))
     where
       at_end : (x y : Bool) → y ≡ true → (x && y) ≡ x
@@ -83,10 +96,10 @@ module _ (z : ZoneState) (h : Hashing) (ns : List Nsec3State) (w : IsWhole3 z h 
       at_end false y p = refl
 
   -- the NSEC3 of a name that is not cut off is no delegation's
-  plain : (name : List (List ℕ)) (a : Nsec3State) → Contains ns a → exists z name ≡ true → is_cut_off z name ≡ false → matches3 h name a ≡ true → is_delegation3 a ≡ false
-  plain name a c e k m = false_from_ne_true (is_delegation3 a) (λ d.
+  plain : (name : List (List ℕ)) (a : Nsec3State) → ends_name name z.apex ≡ true → Contains ns a → exists z name ≡ true → is_cut_off z name ≡ false → matches3 h name a ≡ true → is_delegation3 a ≡ false
+  plain name a inner c e k m = false_from_ne_true (is_delegation3 a) (λ d.
       let p = and_parts (has a 2) (not (has a 6)) d in
-      let f = found (is_record_at name 2) z.records (sym (typed name a 2 c e k m (refl, refl)) ∙ p.0) in
+      let f = found (is_record_at name 2) z.records (sym (typed name a 2 inner c e k m (refl, refl)) ∙ p.0) in
       let q = and_parts (is_owned name f.one) (is_of 2 f.one) f.passes in
       by_apex f.one f.there q.0 q.1 (not-true (has a 6) p.1) (cases_Bool (same_name f.one.owner z.apex)))
     where
@@ -95,21 +108,21 @@ module _ (z : ZoneState) (h : Hashing) (ns : List Nsec3State) (w : IsWhole3 z h 
           let f = found (is_record_at z.apex 6) z.records start.soa in
           let q = and_parts (is_owned z.apex f.one) (is_of 6 f.one) f.passes in
           let there : list_any (is_record_at name 6) z.records ≡ true = present (is_record_at name 6) z.records f.one f.there (and_from (is_owned name f.one) (is_of 6 f.one) (same_trans f.one.owner z.apex name q.0 (same_trans z.apex r.owner name (same_back r.owner z.apex i) o)) q.1) in
-          true≢false (sym there ∙ (sym (typed name a 6 c e k m (refl, refl)) ∙ n))
+          true≢false (sym there ∙ (sym (typed name a 6 inner c e k m (refl, refl)) ∙ n))
       by_apex r t o s n (inr i) = true≢false (sym (cut_by z name r t s (same_ends name r.owner (same_back r.owner name o)) i) ∙ k)
 
   -- the closest encloser's is no DNAME's either
-  proven : (name e : List (List ℕ)) (a : Nsec3State) (cs : List Nsec3State) → Contains cs a → is_under_dname z name ≡ false → (exists z e ≡ true) → is_cut_off z e ≡ false → ends_name name e ≡ true → same_name e name ≡ false → is_matched h ns e ≡ true → IsNear h ns e a → proves_encloser h cs e ≡ true
-  proven name e a cs ca d x k n o r l =
+  proven : (name e : List (List ℕ)) (a : Nsec3State) (cs : List Nsec3State) → ends_name e z.apex ≡ true → Contains cs a → is_under_dname z name ≡ false → (exists z e ≡ true) → is_cut_off z e ≡ false → ends_name name e ≡ true → same_name e name ≡ false → is_matched h ns e ≡ true → IsNear h ns e a → proves_encloser h cs e ≡ true
+  proven name e a cs i ca d x k n o r l =
       let m = own e a r l in
-      let dn : has a 39 ≡ false = typed e a 39 l.one x k m (refl, refl) ∙ false_from_ne_true (list_any (is_record_at e 39) z.records) (λ y.
+      let dn : has a 39 ≡ false = typed e a 39 i l.one x k m (refl, refl) ∙ false_from_ne_true (list_any (is_record_at e 39) z.records) (λ y.
       let f = found (is_record_at e 39) z.records y in
       let q = and_parts (is_owned e f.one) (is_of 39 f.one) f.passes in
       let g : same_name f.one.owner name ≡ false = false_from_ne_true (same_name f.one.owner name) (λ u. true≢false (sym (same_trans e f.one.owner name (same_back f.one.owner e q.0) u) ∙ o)) in
       true≢false (sym (present (λ (r : Record). is_of 39 r && (ends_name name r.owner && not (same_name r.owner name))) z.records f.one f.there
       (and_from (is_of 39 f.one) (ends_name name f.one.owner && not (same_name f.one.owner name)) q.1 (and_from (ends_name name f.one.owner) (not (same_name f.one.owner name)) (ends_trans name e f.one.owner n (same_ends e f.one.owner (same_back f.one.owner e q.0))) (not_from_false (same_name f.one.owner name) g)))) ∙ d)) in
       present (λ (y : Nsec3State). matches3 h e y && not (is_delegation3 y || has y 39)) cs a ca
-      (and_from (matches3 h e a) (not (is_delegation3 a || has a 39)) m (not_from_false (is_delegation3 a || has a 39) (or_from (is_delegation3 a) (has a 39) (plain e a l.one x k m) dn)))
+      (and_from (matches3 h e a) (not (is_delegation3 a || has a 39)) m (not_from_false (is_delegation3 a || has a 39) (or_from (is_delegation3 a) (has a 39) (plain e a i l.one x k m) dn)))
 
   -- ---- the next closer name, from what is chosen
 
@@ -151,8 +164,8 @@ module _ (z : ZoneState) (h : Hashing) (ns : List Nsec3State) (w : IsWhole3 z h 
       let q = and_parts (is_owned name f.one) (is_of u f.one) f.passes in
       true≢false (sym (present (is_asked name t) z.records f.one f.there (and_from (is_owned name f.one) (nat_eq t 255 || is_of t f.one) q.0 (or_left (nat_eq t 255) (is_of t f.one) k))) ∙ d.none))
 
-  pub lacking : (name : List (List ℕ)) (t : ℕ) (a : Nsec3State) → exists z name ≡ true → is_cut_off z name ≡ false → is_matched h ns name ≡ true → HasNone z name t → CanBeDenied z name t → IsNear h ns name a → (matches3 h name a && lacks3 t a) ≡ true
-  lacking name t a x k r d o l =
+  pub lacking : (name : List (List ℕ)) (t : ℕ) (a : Nsec3State) → ends_name name z.apex ≡ true → exists z name ≡ true → is_cut_off z name ≡ false → is_matched h ns name ≡ true → HasNone z name t → CanBeDenied z name t → IsNear h ns name a → (matches3 h name a && lacks3 t a) ≡ true
+  lacking name t a i x k r d o l =
       and_from (matches3 h name a) (lacks3 t a) m
       (and_from (not ((nat_eq t 255 && list_any is_deniable a.types) || (has a t || has a 5))) (if nat_eq t 43 then not (has a 6) else not (is_delegation3 a))
       (not_from_false ((nat_eq t 255 && list_any is_deniable a.types) || (has a t || has a 5))
@@ -164,7 +177,7 @@ module _ (z : ZoneState) (h : Hashing) (ns : List Nsec3State) (w : IsWhole3 z h 
       m = own name a r l
 
       at : (u : ℕ) → IsDeniable u → has a u ≡ list_any (is_record_at name u) z.records
-      at u q = typed name a u l.one x k m q
+      at u q = typed name a u i l.one x k m q
 
       same : (u : ℕ) → nat_eq u u ≡ true
       same u = grind (arith, nat_tests)
@@ -188,7 +201,7 @@ module _ (z : ZoneState) (h : Hashing) (ns : List Nsec3State) (w : IsWhole3 z h 
 
       by_ds : (b : Bool) → nat_eq t 43 ≡ b → (if b then not (has a 6) else not (is_delegation3 a)) ≡ true
       by_ds true f = not_from_false (has a 6) (at 6 (refl, refl) ∙ no_soa z start name (second_false (nat_eq t 43) (same_name name z.apex) f o.parent))
-      by_ds false f = not_from_false (is_delegation3 a) (plain name a l.one x k m)
+      by_ds false f = not_from_false (is_delegation3 a) (plain name a i l.one x k m)
 
   -- ---- what is chosen for a name without an NSEC3
 
@@ -208,9 +221,9 @@ module _ (z : ZoneState) (h : Hashing) (ns : List Nsec3State) (w : IsWhole3 z h 
     pub next_near : IsNear h ns (closer h ns name) next
 
   -- a test at the closest provable encloser, which they prove
-  pub at_chosen : (name : List (List ℕ)) (cs : List Nsec3State) (test : List (List ℕ) → Bool) → Picked name cs → any_matched h ns name ≡ true → is_matched h ns name ≡ false → is_under_dname z name ≡ false → exists z (provable h ns name) ≡ true →
+  pub at_chosen : (name : List (List ℕ)) (cs : List Nsec3State) (test : List (List ℕ) → Bool) → Picked name cs → ends_name name z.apex ≡ true → any_matched h ns name ≡ true → is_matched h ns name ≡ false → is_under_dname z name ≡ false → exists z (provable h ns name) ≡ true →
       is_cut_off z (provable h ns name) ≡ false → test (provable h ns name) ≡ true → (at_encloser h cs test (next_closer h cs name) ≡ true) × (next_closer h cs name ≡ Some (closer h ns name))
-  at_chosen name cs test p r e d x k t =
+  at_chosen name cs test p u r e d x k t =
       let s = shape h ns name r e in
       let y = provable_matched h ns name r in
       let m : matches3 h (provable h ns name) p.encloser ≡ true = own (provable h ns name) p.encloser y p.encloser_near in
@@ -222,7 +235,7 @@ module _ (z : ZoneState) (h : Hashing) (ns : List Nsec3State) (w : IsWhole3 z h 
       } in
       let f = found_closer cs name r e chosen in (
         ap (at_encloser h cs test) (f ∙ ap Some s.is)
-            ∙ and_from (proves_encloser h cs (provable h ns name)) (test (provable h ns name)) (proven name (provable h ns name) p.encloser cs p.encloser_in d x k (provable_above h ns name) (apart_encloser name r e) y p.encloser_near) t,
+            ∙ and_from (proves_encloser h cs (provable h ns name)) (test (provable h ns name)) (proven name (provable h ns name) p.encloser cs (provable_inside name u) p.encloser_in d x k (provable_above h ns name) (apart_encloser name r e) y p.encloser_near) t,
         f,
       )
 
@@ -233,7 +246,7 @@ module _ (z : ZoneState) (h : Hashing) (ns : List Nsec3State) (w : IsWhole3 z h 
       let r = inside name u in
       let n = unmatched name e (i name (ends_itself name)) in
       let up = provable_above h ns name in
-      (at_chosen name cs test p r n d.dname (i (provable h ns name) up (provable_matched h ns name r)) (answered_above z name (provable h ns name) d.cut up) t).0
+      (at_chosen name cs test p u r n d.dname (i (provable h ns name) up (provable_matched h ns name r)) (answered_above z name (provable h ns name) d.cut up) t).0
 
   -- three or two of the chain alone
   in_three : (a b c : Nsec3State) → Contains ns a → Contains ns b → Contains ns c → (n : Nsec3State) → Contains (a ∷ b ∷ c ∷ []) n → Contains ns n
@@ -296,9 +309,9 @@ module _ (z : ZoneState) (h : Hashing) (ns : List Nsec3State) (w : IsWhole3 z h 
       let up = provable_above h ns name in
       let o = apart_encloser name y r in
       let s = shape h ns name y r in
-      let k = at_chosen name cs (λ (e : List (List ℕ)). true) p y r n (i (provable h ns name) up (provable_matched h ns name y)) (above_cut name (provable h ns name) b up o) refl in
+      let k = at_chosen name cs (λ (e : List (List ℕ)). true) p u y r n (i (provable h ns name) up (provable_matched h ns name y)) (above_cut name (provable h ns name) b up o) refl in
       let v : covers3 h (closer h ns name) p.next ≡ true = other (closer h ns name) p.next s.missing p.next_near in
-      let flag : p.next.opt_out ≡ true = of_not (covers3 h (closer h ns name) p.next) p.next.opt_out v (each_of (λ (q : Nsec3State). not (covers3 h (closer h ns name) q) || q.opt_out) ns (w.chain.spared name x b r) p.next p.next_near.one) in
+      let flag : p.next.opt_out ≡ true = of_not (covers3 h (closer h ns name) p.next) p.next.opt_out v (each_of (λ (q : Nsec3State). not (covers3 h (closer h ns name) q) || q.opt_out) ns (w.chain.spared name u x b r) p.next p.next_near.one) in
       let g : opts_out h cs (next_closer h cs name) ≡ true = ap (opts_out h cs) k.1 ∙ present (λ (q : Nsec3State). covers3 h (closer h ns name) q && q.opt_out) cs p.next p.next_in (and_from (covers3 h (closer h ns name) p.next) p.next.opt_out v flag) in
       and_from (at_encloser h cs (λ (e : List (List ℕ)). true) (next_closer h cs name)) (opts_out h cs (next_closer h cs name)) k.0 g
     where
@@ -314,9 +327,15 @@ module _ (z : ZoneState) (h : Hashing) (ns : List Nsec3State) (w : IsWhole3 z h 
       let p = and_parts (is_owned cut f.one) (is_of 2 f.one) f.passes in
       present (λ (r : Record). ends_name r.owner cut) z.records f.one f.there (same_ends f.one.owner cut p.0)
 
+  cut_inside : (cut : List (List ℕ)) → IsUnsigned z cut → ends_name cut z.apex ≡ true
+  cut_inside cut u =
+      let f = found (is_record_at cut 2) z.records u.servers in
+      let p = and_parts (is_owned cut f.one) (is_of 2 f.one) f.passes in
+      ends_trans cut f.one.owner z.apex (same_ends cut f.one.owner (same_back f.one.owner cut p.0)) (within_all z.apex z.records start.within f.one f.there)
+
   pub delegation_listed : (cut : List (List ℕ)) (b : Nsec3State) → IsUnsigned z cut → Contains ns b → matches3 h cut b ≡ true → (is_delegation3 b && not (has b 43)) ≡ true
   delegation_listed cut b u c m =
-      let listed : (t : ℕ) → IsDeniable t → has b t ≡ has_type z cut t = λ t o. w.chain.types b c cut (cut_exists cut u) u.first m t o in
+      let listed : (t : ℕ) → IsDeniable t → has b t ≡ has_type z cut t = λ t o. w.chain.types b c cut (cut_inside cut u) (cut_exists cut u) u.first m t o in
       let two : has b 2 ≡ true = listed 2 (refl, refl) ∙ and_from (list_any (is_record_at cut 2) z.records) (not (is_cut_off z cut) || (nat_eq 2 2 || nat_eq 2 43)) u.servers (or_right (not (is_cut_off z cut)) (nat_eq 2 2 || nat_eq 2 43) refl) in
       let six : has b 6 ≡ false = listed 6 (refl, refl) ∙ and_left (list_any (is_record_at cut 6) z.records) (not (is_cut_off z cut) || (nat_eq 6 2 || nat_eq 6 43)) (no_soa z start cut u.inner) in
       let ds : has b 43 ≡ false = listed 43 (refl, refl) ∙ and_left (list_any (is_record_at cut 43) z.records) (not (is_cut_off z cut) || (nat_eq 43 2 || nat_eq 43 43)) u.unsigned in
@@ -330,15 +349,15 @@ name_errors3 z h ns name a b c w u d e f i j la lb lc =
     (third z h ns w (covers3 h (star ∷ provable h ns name)) a b c (other z h ns w (star ∷ provable h ns name) c (unmatched z h ns w (star ∷ provable h ns name) f j) lc))
 
 pub no_data3 : NoDataIsProved3
-no_data3 z h ns name t a w d e r o q l =
+no_data3 z h ns name t a w u d e r o q l =
     or_left (list_any (λ (n : Nsec3State). matches3 h name n && lacks3 t n) (a ∷ [])) (nat_eq t 43 && (at_encloser h (a ∷ []) (λ (x : List (List ℕ)). true) (next_closer h (a ∷ []) name) && opts_out h (a ∷ []) (next_closer h (a ∷ []) name)))
-    (or_left (matches3 h name a && lacks3 t a) false (lacking z h ns w name t a e d.cut r o q l))
+    (or_left (matches3 h name a && lacks3 t a) false (lacking z h ns w name t a u e d.cut r o q l))
 
 pub wildcard_no_data3 : WildcardNoDataIsProved3
 wildcard_no_data3 z h ns name t a b c w u d e f r o q i la lb lc =
     at_missing z h ns w name (a ∷ b ∷ c ∷ []) (λ (x : List (List ℕ)). list_any (λ (n : Nsec3State). matches3 h (star ∷ x) n && lacks3 t n) (a ∷ b ∷ c ∷ [])) (pick_three z h ns w name a b c la lb lc.one) u d e i
     (third z h ns w (λ (n : Nsec3State). matches3 h (star ∷ provable h ns name) n && lacks3 t n) a b c
-    (lacking z h ns w (star ∷ provable h ns name) t c f (wild_uncut z (starts z w.zone) (provable h ns name) (answered_above z name (provable h ns name) d.cut (provable_above h ns name))) r o q lc))
+    (lacking z h ns w (star ∷ provable h ns name) t c (wild_inside z h ns w name u) f (wild_uncut z (starts z w.zone) (provable h ns name) (answered_above z name (provable h ns name) d.cut (provable_above h ns name))) r o q lc))
 
 pub expansions3 : ExpansionsAreProved3
 expansions3 z h ns name b w u e i lb =

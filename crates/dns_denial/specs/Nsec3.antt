@@ -149,20 +149,20 @@ exists_firmly z name = list_any (λ (r : Record). ends_name r.owner name && is_f
 
 -- the chain of a zone is whole (section 7.1)
 pub record IsChained3 (z : ZoneState) (h : Hashing) (ns : List Nsec3State) : Type 0 where
-  -- each name with authority and each delegation point with DS has an NSEC3, and each empty non-terminal that they make
-  pub held : (name : List (List ℕ)) → exists_firmly z name ≡ true → is_matched h ns name ≡ true
+  -- each name in the zone with authority and each delegation point with DS has an NSEC3, and each empty non-terminal that they make
+  pub held : (name : List (List ℕ)) → ends_name name z.apex ≡ true → exists_firmly z name ≡ true → is_matched h ns name ≡ true
   -- of the other names that exist, the next closer name is in a span with Opt-Out if there is none
-  pub spared : (name : List (List ℕ)) → exists z name ≡ true → is_below_cut z name ≡ false → is_matched h ns name ≡ false
-      → is_opted_out h ns (closer h ns name) ≡ true
-  -- each NSEC3 is that of a name that exists and isn't below a cut
-  pub owed : (n : Nsec3State) → Contains ns n → (name : List (List ℕ)) × (exists z name ≡ true) × (is_below_cut z name ≡ false)
-      × (matches3 h name n ≡ true)
+  pub spared : (name : List (List ℕ)) → ends_name name z.apex ≡ true → exists z name ≡ true → is_below_cut z name ≡ false
+      → is_matched h ns name ≡ false → is_opted_out h ns (closer h ns name) ≡ true
+  -- each NSEC3 is that of a name in the zone that exists and isn't below a cut
+  pub owed : (n : Nsec3State) → Contains ns n → (name : List (List ℕ)) × (ends_name name z.apex ≡ true) × (exists z name ≡ true)
+      × (is_below_cut z name ≡ false) × (matches3 h name n ≡ true)
   -- each points to the next: it is one, and none is between
   pub next : (n : Nsec3State) → Contains ns n → list_any (λ (m : Nsec3State). bytes_eq m.hash n.next) ns ≡ true
   pub gap : (n m : Nsec3State) → Contains ns n → Contains ns m → spans m.hash n ≡ false
   -- the types are those that the zone has there
-  pub types : (n : Nsec3State) → Contains ns n → (name : List (List ℕ)) → exists z name ≡ true → is_below_cut z name ≡ false
-      → matches3 h name n ≡ true → (t : ℕ) → IsDeniable t → has n t ≡ has_type z name t
+  pub types : (n : Nsec3State) → Contains ns n → (name : List (List ℕ)) → ends_name name z.apex ≡ true → exists z name ≡ true
+      → is_below_cut z name ≡ false → matches3 h name n ≡ true → (t : ℕ) → IsDeniable t → has n t ≡ has_type z name t
 
 -- no NSEC3 has the hash of a name that doesn't exist: else a server must fail (section 7.2.9)
 abbrev pub IsApart : ZoneState → Hashing → List Nsec3State → List (List ℕ) → Type 0
@@ -199,7 +199,8 @@ NameErrorsAreProved3 = (z : ZoneState) (h : Hashing) (ns : List Nsec3State) (nam
 -- a name that has an NSEC3 and no records of a type
 abbrev pub NoDataIsProved3 : Type 0
 NoDataIsProved3 = (z : ZoneState) (h : Hashing) (ns : List Nsec3State) (name : List (List ℕ)) (t : ℕ) (a : Nsec3State) → IsWhole3 z h ns
-    → IsAnswered z name → exists z name ≡ true → is_matched h ns name ≡ true → HasNone z name t → CanBeDenied z name t
+    → ends_name name z.apex ≡ true → IsAnswered z name → exists z name ≡ true → is_matched h ns name ≡ true → HasNone z name t
+    → CanBeDenied z name t
     → IsNear h ns name a → proves_no_data3 h (a ∷ []) name t ≡ true
 
 -- a name that doesn't exist, for which a wildcard stands that has no records of a type

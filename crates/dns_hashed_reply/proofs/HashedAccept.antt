@@ -19,7 +19,7 @@ use Rattle.dns_denial.specs.Nsec3.{AreApart, Hashing, IsNear, IsWhole3, Nsec3Sta
 use Rattle.dns_denial.proofs.Accepted3Laws.{next_is}
 use Rattle.dns_denial.proofs.AcceptedLaws.{had_some, is_ds, none_of, there, unsigned_at, unsigned_cut}
 use Rattle.dns_denial.proofs.ChainLaws.{answered_above}
-use Rattle.dns_denial.proofs.HashLaws.{Picked, at_missing, cut_exists, delegation_listed, inside, lacking, opted_out, other, own}
+use Rattle.dns_denial.proofs.HashLaws.{Picked, at_missing, cut_exists, delegation_listed, inside, lacking, opted_out, other, own, wild_inside}
 use Rattle.dns_denial.proofs.ListLaws.{found, present}
 use Rattle.dns_denial.proofs.NameLaws.{ends_itself, ends_trans, same_back, same_ends}
 use Rattle.dns_denial.proofs.ProvableLaws.{any_matched, provable_above, provable_here, provable_matched, shape}
@@ -166,7 +166,7 @@ module _ (s : HashedState) (chosen : List Nsec3State) (t : ℕ) (name : List (Li
           let b : HasNone z name 43 = subst (HasNone z name) (is_ds z start t name k r) (none_of z t name true x f) in
           let u : IsUnsigned z name = unsigned_at z start t name k r b in
           let listed : (y : ℕ) → IsDeniable y → list_any (is_record_at name y) z.records ≡ false → has a.0 y ≡ false = λ y p g.
-          w.chain.types a.0 a.2.one name x r.first o y p ∙ and_left (list_any (is_record_at name y) z.records) (not (is_cut_off z name) || (nat_eq y 2 || nat_eq y 43)) g in
+          w.chain.types a.0 a.2.one name within x r.first o y p ∙ and_left (list_any (is_record_at name y) z.records) (not (is_cut_off z name) || (nat_eq y 2 || nat_eq y 43)) g in
           let six : has a.0 6 ≡ false = listed 6 (refl, refl) (no_soa z start name u.inner) in
           let five : has a.0 5 ≡ false = listed 5 (refl, refl) (not_at z name 5 b.alias) in
           let ds : has a.0 43 ≡ false = listed 43 (refl, refl) u.unsigned in
@@ -182,7 +182,7 @@ module _ (s : HashedState) (chosen : List Nsec3State) (t : ℕ) (name : List (Li
           by_match : (is_matched h ns name ≡ true) ⊎ (is_matched h ns name ≡ false) → (is_cut_off z name ≡ true) ⊎ (is_cut_off z name ≡ false) → proves_no_data3 h chosen name t ≡ true
           by_match (inr m) k = left_out m
           by_match (inl m) (inl k) = ds_absent k m
-          by_match (inl m) (inr k) = let a = alone name m (for_names (own_proof s name) own_names) in shown a.0 a.1 (lacking z h ns w name t a.0 x k m (none_of z t name true x f) d a.2)
+          by_match (inl m) (inr k) = let a = alone name m (for_names (own_proof s name) own_names) in shown a.0 a.1 (lacking z h ns w name t a.0 within x k m (none_of z t name true x f) d a.2)
 
     -- ---- one that doesn't
 
@@ -250,12 +250,12 @@ module _ (s : HashedState) (chosen : List Nsec3State) (t : ℕ) (name : List (Li
             let l = v.closest x g in
             let q : wildcard z name ≡ wildcard_of s name = ap (λ (y : List (List ℕ)). star ∷ y) (sym l.0) in
             let n : HasNone z (wildcard_of s name) t = subst (λ (y : List (List ℕ)). HasNone z y t) q (none_of z t name false x f) in
-            let p : CanBeDenied z (wildcard_of s name) t = subst (λ (y : List (List ℕ)). CanBeDenied z y t) q (record { told = d.told; parent = never (nat_eq t 43) (same_name (wildcard z name) z.apex) (not_apex z start name within) }) in
+            let p : CanBeDenied z (wildcard_of s name) t = subst (λ (y : List (List ℕ)). CanBeDenied z y t) q (record { deniable = d.deniable; parent = never (nat_eq t 43) (same_name (wildcard z name) z.apex) (not_apex z start name within) }) in
             let y : exists z (wildcard_of s name) ≡ true = subst (λ (a : List (List ℕ)). exists z a ≡ true) q g in
             let m : is_matched h ns (wildcard_of s name) ≡ true = subst (λ (a : List (List ℕ)). is_matched h ns a ≡ true) q l.1 in
             let u : is_cut_off z (wildcard_of s name) ≡ false = wild_uncut z start (provable h ns name) (answered_above z name (provable h ns name) cut (provable_above h ns name)) in
             at_missing z h ns w name chosen (λ (a : List (List ℕ)). list_any (λ (o : Nsec3State). matches3 h (star ∷ a) o && lacks3 t o) chosen) pick within answered x apart
-            (present (λ (o : Nsec3State). matches3 h (wildcard_of s name) o && lacks3 t o) chosen wild.0 wild.1 (lacking z h ns w (wildcard_of s name) t wild.0 y u m n p wild.2))
+            (present (λ (o : Nsec3State). matches3 h (wildcard_of s name) o && lacks3 t o) chosen wild.0 wild.1 (lacking z h ns w (wildcard_of s name) t wild.0 (wild_inside z h ns w name within) y u m n p wild.2))
           where
             never : (a b : Bool) → b ≡ false → (a && b) ≡ false
             never true b g = g
