@@ -66,6 +66,10 @@ module _ (z : ZoneState) where
   drop_all p (suc k) [] h = h
   drop_all p (suc k) (x ∷ xs) h = drop_all p k xs (tail_all p x xs h)
 
+  -- what holds of the names above a name holds of one of them
+  pub first_held : (p : Name → Bool) (k : ℕ) (name : Name) → ends_name (drop k name) z.apex ≡ true → list_all p (zone_names z name) ≡ true → p (drop k name) ≡ true
+  first_held p k name e h = first_all p (drop k name) e (drop_all p k name h)
+
 -- ---- a name and those above it
 
 pub ends_drop : (k : ℕ) (name : Name) → ends_name name (drop k name) ≡ true
@@ -175,4 +179,4 @@ module _ (z : ZoneState) (h : Hashing) (ns : List Nsec3State) (firm : Bool) (nam
   pub not_down : (k : ℕ) → ends_name (drop k name) z.apex ≡ true → is_held z h ns firm (drop k name) ≡ false → are_held z h ns firm name ≡ false
   not_down k e f = false_from_ne_true (are_held z h ns firm name) (λ t.
       let p = and_parts (is_matched h ns z.apex) (list_all (is_held z h ns firm) (zone_names z name)) t in
-      true≢false (sym (first_all z (is_held z h ns firm) (drop k name) e (drop_all z (is_held z h ns firm) k name p.1)) ∙ f))
+      true≢false (sym (first_held z (is_held z h ns firm) k name e p.1) ∙ f))

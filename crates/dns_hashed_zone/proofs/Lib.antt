@@ -2,3 +2,5 @@ pub mod PlaceLaws
 pub mod GroupLaws
 pub mod DownLaws
 pub mod MarkLaws
+pub mod SpanLaws
+pub mod ChainLaws3

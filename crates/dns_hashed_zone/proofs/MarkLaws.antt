@@ -2,24 +2,19 @@
 use Rattle.std.proofs.Common.{◌≡◌, ℕ, zero, suc, ◌+◌, ◌<◌, ◌≤◌, Bool, true, false, List, [], ◌∷◌, length, get_or, map, refl, ap, sym, ◌∙◌, arith, inl, inr}
 use Rattle.std.specs.Prelude.{◌||◌, ◌⊎◌, not}
 use Rattle.std.specs.Cmp.{both_ways}
-use Rattle.std.specs.Cmp.Lexicographic.{nat_list_cmp_total}
-use Rattle.std.specs.List.{Contains, list_all, list_any}
-use Rattle.std.specs.Ordering.{is_lt}
+use Rattle.std.specs.List.{list_all, list_any}
 use Rattle.std.specs.Str.{bytes_eq}
 use Rattle.std.proofs.Math.ListN.{set}
 use Rattle.std.proofs.lemmas.Bool.{true≢false, cases_Bool, cases_lt, false_from_ne_true, or_from, or_parts}
-use Rattle.std.proofs.lemmas.Cmp.{tied_itself}
 use Rattle.dns_zone.specs.Owned.{ZoneState}
 use Rattle.dns_denial.specs.Hashes.{AreSorted3}
 use Rattle.dns_denial.specs.Nsec3.{Hashing, Nsec3State, hash_of, is_lower, is_matched, matches3}
 use Rattle.dns_denial.proofs.HashOrder.{same_hash}
+use Rattle.dns_denial.proofs.HashSearch.{itself}
 use Rattle.dns_denial.proofs.ListLaws.{all_of, each_of}
 use Rattle.dns_denial.proofs.PlaceLaws.{same_default}
 use Rattle.dns_hashed_zone.specs.HashedChecks.{lists_types}
 use Rattle.dns_hashed_zone.specs.Meetings.{all_marked, marked}
-
-itself : (a : List ℕ) → is_lower a a ≡ false
-itself a = ap is_lt (tied_itself nat_list_cmp_total a)
 
 -- ---- one NSEC3 of a chain has a hash
 

@@ -20,7 +20,7 @@ module _ (f : Nsec3State → Bool) (d : Nsec3State) where
   one_more : (x : Nsec3State) (xs : List Nsec3State) (b : Bool) → f x ≡ b → count_by f (x ∷ xs) ≡ cond b 1 0 + count_by f xs
   one_more x xs b e = sum_by-cons (λ (y : Nsec3State). cond (f y) 1 0) x xs ∙ ap (λ (c : Bool). cond c 1 0 + count_by f xs) e
 
-  counted : (xs : List Nsec3State) (i : ℕ) → i ≤ length xs → ((k : ℕ) → k < i → f (get_or xs k d) ≡ true) → ((k : ℕ) → i ≤ k → k < length xs → f (get_or xs k d) ≡ false) → count_by f xs ≡ i
+  pub counted : (xs : List Nsec3State) (i : ℕ) → i ≤ length xs → ((k : ℕ) → k < i → f (get_or xs k d) ≡ true) → ((k : ℕ) → i ≤ k → k < length xs → f (get_or xs k d) ≡ false) → count_by f xs ≡ i
   counted [] i h a b = omega (arith, h)
   counted (x ∷ xs) zero h a b =
       let e = one_more x xs false (b zero (omega arith) (omega arith)) in
