@@ -3,4 +3,5 @@ pub mod GroupLaws
 pub mod DownLaws
 pub mod MarkLaws
 pub mod SpanLaws
+pub mod TypeLaws3
 pub mod ChainLaws3
