@@ -26,13 +26,13 @@ not_both Greater h = absurd (true≢false (sym h))
 turned : (a b : List ℕ) → is_gt (slice_cmp nat_cmp a b) ≡ is_lower b a
 turned a b = ap is_gt (nat_list_cmp_total.antisymm a b) ∙ flipped (slice_cmp nat_cmp b a)
 
-lower_upto : (a b : List ℕ) → is_lower a b ≡ true → is_lower b a ≡ false
+pub lower_upto : (a b : List ℕ) → is_lower a b ≡ true → is_lower b a ≡ false
 lower_upto a b h = sym (turned a b) ∙ not_both (slice_cmp nat_cmp a b) h
 
-upto_trans : (a b c : List ℕ) → is_lower b a ≡ false → is_lower c b ≡ false → is_lower c a ≡ false
+pub upto_trans : (a b c : List ℕ) → is_lower b a ≡ false → is_lower c b ≡ false → is_lower c a ≡ false
 upto_trans a b c h k = sym (turned a c) ∙ upto nat_list_cmp_total a b c (turned a b ∙ h) (turned b c ∙ k)
 
-itself : (a : List ℕ) → is_lower a a ≡ false
+pub itself : (a : List ℕ) → is_lower a a ≡ false
 itself a = ap is_lt (tied_itself nat_list_cmp_total a)
 
 module _ (ns : List Nsec3State) (o : List ℕ) (sorted : AreSorted3 ns) where

@@ -67,7 +67,7 @@ any_agree p q e [] = refl
 any_agree p q e (r ∷ rs) = λ i. e r i || any_agree p q e rs i
 
 module _ (z : ZoneState) (name : List (List ℕ)) (m : Kinds) (h : IsHeld z name m) where
-  held_some : (t : ℕ) → is_placed t m ≡ list_any (is_asked name t) z.records
+  pub held_some : (t : ℕ) → is_placed t m ≡ list_any (is_asked name t) z.records
   held_some t = ap (λ (js : List ℕ). not (length js == 0)) (h.kept t) ∙ some_places (is_asked name t) 0 z.records
 
   and_true : (b : Bool) → (b && true) ≡ b
@@ -83,11 +83,11 @@ module _ (z : ZoneState) (name : List (List ℕ)) (m : Kinds) (h : IsHeld z name
   exact : (t : ℕ) → t ≢ 255 → nat_eq t 255 ≡ false
   exact t n = grind (arith, nat_tests)
 
-  held_type : (t : ℕ) → t ≢ 255 → is_placed t m ≡ list_any (is_record_at name t) z.records
+  pub held_type : (t : ℕ) → t ≢ 255 → is_placed t m ≡ list_any (is_record_at name t) z.records
   held_type t n = held_some t ∙ any_agree (is_asked name t) (is_record_at name t) (λ r. ap (λ (b : Bool). is_owned name r && (b || is_of t r)) (exact t n)) z.records
 
   -- such a name is cut off if it is a delegation point
-  held_cut : is_cut_off z name ≡ (list_any (is_record_at name 2) z.records && not (same_name name z.apex))
+  pub held_cut : is_cut_off z name ≡ (list_any (is_record_at name 2) z.records && not (same_name name z.apex))
   held_cut = both_ways (is_cut_off z name) (list_any (is_record_at name 2) z.records && not (same_name name z.apex)) there back
     where
       there : is_cut_off z name ≡ true → (list_any (is_record_at name 2) z.records && not (same_name name z.apex)) ≡ true

@@ -52,6 +52,20 @@ impl Nsec3 {
         self.opt_out
     }
 
+    /// The next hash in the order of hashes (RFC 5155, section 3.1.7).
+    pub fn next(&self) -> &[u8; 20]
+        ensures { result.now ≡ self.now.next }
+    {
+        &self.next
+    }
+
+    /// The types of the type bit maps.
+    pub fn types(&self) -> &[u16]
+        ensures { result.now ≡ self.now.types }
+    {
+        self.types.as_slice()
+    }
+
     /// Whether a hash is that of its owner.
     pub(crate) fn is_of(&self, hash: &[u8]) -> bool
         ensures { result ≡ bytes_eq self.now.hash hash.now }

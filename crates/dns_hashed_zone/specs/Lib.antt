@@ -1,0 +1,11 @@
+pub use Rattle.dns_denial.specs.Accepted
+pub use Rattle.dns_denial.specs.Accepted3
+pub use Rattle.dns_denial.specs.Hashes
+pub use Rattle.dns_denial.specs.Nsec3
+pub use Rattle.dns_nsec3_data.specs.Nsec3Data
+pub use Rattle.dns_denial.specs.Signed
+pub mod Searches
+pub mod HashedStates
+pub mod HashedChecks
+pub mod Meetings
+pub mod MadeHashed

@@ -1,0 +1,2 @@
+pub mod Nsec3Laws
+pub mod ParamLaws
