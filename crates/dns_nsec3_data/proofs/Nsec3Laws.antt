@@ -1,13 +1,13 @@
 -- NSEC3s that are read record by record, and their order.
 use Rattle.std.proofs.Common.{◌≡◌, ℕ, ◌+◌, ◌<◌, Bool, true, false, List, [], ◌∷◌, ◌++◌, length, take, get_or, cond, Result, Ok, Err, refl, ap, sym, subst, ◌∙◌, arith, append-nil}
 use Rattle.std.specs.Prelude.{IfOk}
-use Rattle.std.specs.Cmp.Lexicographic.{nat_list_cmp_total, slice_cmp, texts_ties}
+use Rattle.std.specs.Cmp.Lexicographic.{bytes_decides, nat_list_cmp_total, slice_cmp, texts_ties}
 use Rattle.std.specs.List.Sorted.{IsSortedBy}
 use Rattle.std.specs.Ordering.{is_eq, is_gt, is_lt, nat_cmp, ordering_reverse}
 use Rattle.std.specs.declared.cmp.Ordering.{Ordering}
 use Rattle.std.specs.declared.cmp.Ordering.TheVariants.{Less, Equal, Greater}
 use Rattle.std.specs.Str.{bytes_eq}
-use Rattle.std.proofs.lemmas.Bool.{true≢false}
+use Rattle.std.proofs.lemmas.Bool.{true≢false, false_from_ne_true}
 use Rattle.std.proofs.lemmas.List.{take_more}
 use Rattle.std.proofs.lemmas.List.Sorted.{ranks_by, sorted_far}
 use Rattle.dns_name.specs.declared.error.OutOfMemory.{OutOfMemory}
@@ -15,7 +15,6 @@ use Rattle.dns_message.specs.declared.record.Record.{Record}
 use Rattle.dns_zone.specs.Owned.{is_of}
 use Rattle.dns_denial.specs.Hashes.{AreSorted3}
 use Rattle.dns_denial.specs.Nsec3.{Hashing, Nsec3State, is_lower}
-use Rattle.dns_denial.proofs.HashOrder.{bytes_back}
 use Rattle.dns_nsec3_data.specs.Nsec3Data.{AreApart3, AreNsec3s, Keeps3, KeepsOne3, is_ahead3, nsec3_records}
 
 -- ---- the order of a list
@@ -73,6 +72,9 @@ turned a b = ap is_gt (nat_list_cmp_total.antisymm a b) ∙ flipped (slice_cmp n
 
 lower_apart : (a b : List ℕ) → is_lower a b ≡ false → bytes_eq a b ≡ false → is_lower b a ≡ true
 lower_apart a b h k = sym (turned a b) ∙ one_left (slice_cmp nat_cmp a b) h (sym (texts_ties a b) ∙ k)
+
+bytes_back : (a b : List ℕ) → bytes_eq a b ≡ false → bytes_eq b a ≡ false
+bytes_back a b h = false_from_ne_true (bytes_eq b a) (λ t. true≢false (sym ((bytes_decides a b).1 (sym ((bytes_decides b a).0 t))) ∙ h))
 
 -- NSEC3s in the order of their hashes, of which each has its own, are a chain's
 pub sorted_apart3 : (ns : List Nsec3State) → IsSortedBy is_ahead3 ns → AreApart3 ns → AreSorted3 ns

@@ -94,31 +94,31 @@ no_more p xs e = nothing (filter p xs) e
 -- what `find` says of a list, and of what a filter keeps
 pub first_kept : (p : Record → Bool) (xs : List Record) (r : Record) → find p xs ≡ Some r → length (filter p xs) ≡ 1 → filter p xs ≡ r ∷ []
 first_kept p [] r f e = absurd (omega (arith, e))
-first_kept p (x ∷ xs) r f e = by_test (p x) refl
+first_kept p (x ∷ xs) r f e = by_test (first_kept p xs r) (p x) refl
   where
-    by_test : (b : Bool) → p x ≡ b → filter p (x ∷ xs) ≡ r ∷ []
-    by_test true t =
+    by_test : (find p xs ≡ Some r → length (filter p xs) ≡ 1 → filter p xs ≡ r ∷ []) → (b : Bool) → p x ≡ b → filter p (x ∷ xs) ≡ r ∷ []
+    by_test ih true t =
         let g : Some x ≡ Some r = sym (ap (λ (b : Bool). cond b (Some x) (find p xs)) t) ∙ f in
         let q : x ≡ r = cc in
         let k : filter p (x ∷ xs) ≡ x ∷ filter p xs = ap (λ (b : Bool). cond b (x ∷ filter p xs) (filter p xs)) t in
         let n : length (filter p xs) ≡ 0 = omega (arith, ap length k, e) in
         k ∙ (λ i. q i ∷ no_more p xs n i)
-    by_test false t =
+    by_test ih false t =
         let k : filter p (x ∷ xs) ≡ filter p xs = ap (λ (b : Bool). cond b (x ∷ filter p xs) (filter p xs)) t in
-        k ∙ first_kept p xs r (sym (ap (λ (b : Bool). cond b (Some x) (find p xs)) t) ∙ f) (sym (ap length k) ∙ e)
+        k ∙ ih (sym (ap (λ (b : Bool). cond b (Some x) (find p xs)) t) ∙ f) (sym (ap length k) ∙ e)
 
 pub none_kept : (p : Record → Bool) (xs : List Record) → find p xs ≡ None → length (filter p xs) ≡ 1 → ⊥
 none_kept p [] f e = omega (arith, e)
-none_kept p (x ∷ xs) f e = by_test (p x) refl
+none_kept p (x ∷ xs) f e = by_test (none_kept p xs) (p x) refl
   where
     none : (y : Record) → Some y ≡ None → ⊥
     none y g = absurd (cc)
 
-    by_test : (b : Bool) → p x ≡ b → ⊥
-    by_test true t = none x (sym (ap (λ (b : Bool). cond b (Some x) (find p xs)) t) ∙ f)
-    by_test false t =
+    by_test : (find p xs ≡ None → length (filter p xs) ≡ 1 → ⊥) → (b : Bool) → p x ≡ b → ⊥
+    by_test ih true t = none x (sym (ap (λ (b : Bool). cond b (Some x) (find p xs)) t) ∙ f)
+    by_test ih false t =
         let k : filter p (x ∷ xs) ≡ filter p xs = ap (λ (b : Bool). cond b (x ∷ filter p xs) (filter p xs)) t in
-        none_kept p xs (sym (ap (λ (b : Bool). cond b (Some x) (find p xs)) t) ∙ f) (sym (ap length k) ∙ e)
+        ih (sym (ap (λ (b : Bool). cond b (Some x) (find p xs)) t) ∙ f) (sym (ap length k) ∙ e)
 
 -- ---- the hash of an owner
 
@@ -259,14 +259,14 @@ is_param apex rs r f h left a b e u = record {
 -- what a filter keeps passes its test
 kept_passes : (p : Record → Bool) (xs : List Record) (r : Record) → filter p xs ≡ r ∷ [] → p r ≡ true
 kept_passes p [] r e = absurd (omega (arith, ap length e))
-kept_passes p (x ∷ xs) r e = by_test (p x) refl
+kept_passes p (x ∷ xs) r e = by_test (kept_passes p xs r) (p x) refl
   where
-    by_test : (b : Bool) → p x ≡ b → p r ≡ true
-    by_test true t =
+    by_test : (filter p xs ≡ r ∷ [] → p r ≡ true) → (b : Bool) → p x ≡ b → p r ≡ true
+    by_test ih true t =
         let k : x ∷ filter p xs ≡ r ∷ [] = sym (ap (λ (b : Bool). cond b (x ∷ filter p xs) (filter p xs)) t) ∙ e in
         let q : x ≡ r = cc in
         sym (ap p q) ∙ t
-    by_test false t = kept_passes p xs r (sym (ap (λ (b : Bool). cond b (x ∷ filter p xs) (filter p xs)) t) ∙ e)
+    by_test ih false t = ih (sym (ap (λ (b : Bool). cond b (x ∷ filter p xs) (filter p xs)) t) ∙ e)
 
 pub param_read : (apex : List (List ℕ)) (rs : List Record) (r : Record) (f : ℕ) (h : Hashing) (left : List ℕ) → used_records apex rs ≡ r ∷ [] → BeginWithParameters (unknown_octets r.rdata) f h left → left ≡ [] → IsParam apex rs h
 param_read apex rs r f h left a b e = is_param apex rs r f h left a b e (kept_passes (is_used apex) rs r a)

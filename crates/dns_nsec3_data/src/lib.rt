@@ -13,7 +13,7 @@
 //! A zone has one NSEC3PARAM record without flags at its apex. Others, with flags, are ignored (section 4.1.2). Each NSEC3 record
 //! has its parameters: a zone with several chains is refused.
 //!
-//! # What is to be proved (nothing here is, yet)
+//! # What is proved
 //!
 //! - Parameters, NSEC3PARAM and NSEC3 records are read exactly as `specs/Nsec3Data.antt` says, and each refusal says its cause.
 //! - A chain has the NSEC3s of the NSEC3 records in the order of their hashes, each once for each record.
