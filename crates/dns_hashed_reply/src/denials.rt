@@ -1,25 +1,36 @@
 //! The NSEC3 records that prove what a reply says is absent.
 
-ghost use Rattle.std.specs.Prelude.{◌≡◌, ◌≤◌, ◌<◌, ◌∷◌, [], false, ℕ, List, length, IfOk, OnOk, IsTrue, MatchOption};
-ghost use Rattle.std.specs.List.{flat_map};
+ghost use Rattle.std.specs.Prelude.{◌≡◌, ◌≤◌, ◌&&◌, ◌∷◌, [], false, not, nat_eq, if◌then◌else◌, is_some, ℕ, List, length, IfOk, OnOk, IsTrue, Option};
+ghost use Rattle.std.specs.List.{flat_map, list_any};
+ghost use Rattle.std.specs.Option.{option_copied};
 ghost use Rattle.dns_name.specs.Labels.{spell};
 ghost use Rattle.dns_route.specs.Routes.{ends_name};
 ghost use Rattle.dns_zone.specs.Places.{at_places};
 ghost use Rattle.dns_zone_tree.specs.Kinds.{kind_places};
 ghost use Rattle.dns_zone_tree.specs.Regions.{BelowCut, asked_region};
 ghost use Rattle.dns_zone_tree.specs.Walks.{ReachesNode, ReachesNone};
-ghost use Rattle.dns_zone_tree.specs.Wildcards.{star};
-ghost use Rattle.dns_signed_reply.specs.SignedReplies.{led_to};
+ghost use Rattle.dns_zone_tree.specs.Wildcards.{are_some, star};
+ghost use Rattle.dns_signed_reply.specs.SignedReplies.{led_to, owned_records};
 ghost use Rattle.dns_hashed_zone.specs.Searches.{near_place};
 ghost use Rattle.dns_hashed_reply.specs.Choices.{Adds, AddsFor, inside, names_places};
 ghost use Rattle.dns_hashed_reply.specs.HashedReplies.{collides, fails, own_proof, places};
 
-use dns_base::{NameRef, QuestionRef, Record, Rtype};
+use dns_base::{NameRef, QuestionRef, Record};
+use dns_denial::wildcard_below;
 use dns_hashed_zone::{HashedName, HashedZone};
-use dns_name::{Name, OutOfMemory, names_are_the_grammar};
+use dns_name::OutOfMemory;
 use dns_signed_reply::{follows, gives, of_node, owned_records};
 use dns_zone_tree::{Kinds, Walk, record_target};
 use std::alloc::Global;
+
+/// The type of name servers.
+const NS: u16 = 2;
+
+/// The type of an alias.
+const CNAME: u16 = 5;
+
+/// The type of the records of a delegation's keys.
+const DS: u16 = 43;
 
 /// The places of the NSEC3s that prove what is absent, each once; or that a hash collides.
 #[derive(Drop)]
@@ -30,15 +41,30 @@ pub(crate) struct Chosen {
     pub(crate) collides: bool,
 }
 
+/// Whether a place is one of some.
+fn has_place(places: &[usize], place: usize) -> bool
+    ensures { result ≡ list_any (nat_eq place) places.now }
+{
+    places.iter().any(|one| place == *one)
+}
+
 /// Adds a place, unless it is there.
 fn add(chosen: &mut Chosen, place: usize) -> Result<(), OutOfMemory>
     ensures { OnOk result (Adds chosen.old chosen.new false (place ∷ [])) }
 {
-    if chosen.places.as_slice().contains(&place) {
+    if has_place(chosen.places.as_slice(), place) {
         return Ok(());
     }
     chosen.places.push(place)?;
     Ok(())
+}
+
+/// Adds two places.
+fn add_both(chosen: &mut Chosen, first: usize, second: usize) -> Result<(), OutOfMemory>
+    ensures { OnOk result (Adds chosen.old chosen.new false (first ∷ second ∷ [])) }
+{
+    add(chosen, first)?;
+    add(chosen, second)
 }
 
 /// Adds the NSEC3 of a name that exists, or where a span with Opt-Out leaves it out the closest encloser proof (RFC 5155, sections
@@ -55,10 +81,7 @@ fn add_own(
     let found = zone.search(alloc, name)?;
     match found {
         HashedName::Own(place) => add(chosen, place),
-        HashedName::Missing { encloser, next, .. } => {
-            add(chosen, encloser)?;
-            add(chosen, next)
-        }
+        HashedName::Missing { encloser, next, .. } => add_both(chosen, encloser, next),
     }
 }
 
@@ -81,20 +104,13 @@ fn add_node(
     add_own(zone, alloc, name, chosen)
 }
 
-/// The wildcard below a name; none if it would be too long.
-fn wildcard_below(alloc: Global, name: &NameRef<'_>) -> Result<Option<Name>, OutOfMemory>
-    ensures { IfOk result (λ w. MatchOption w (253 < length (spell name.now)) (λ n. n ≡ star ∷ name.now)) }
+/// Whether a hash collides: an NSEC3 has it, and the name isn't there.
+fn is_collision(matched: bool, there: Option<&Kinds>) -> bool
+    ensures { result ≡ (matched && not (is_some (option_copied there.entry))) }
 {
-    let octets = name.as_slice();
-    if octets.len() > 253 {
-        return Ok(None);
-    }
-    let mut spelt = Vec::from_slice(alloc, &[1, 42])?;
-    spelt.extend_from_slice(octets)?;
-    names_are_the_grammar();
-    match Name::from_octets(spelt) {
-        Ok(wildcard) => Ok(Some(wildcard)),
-        Err(_) => Ok(None),
+    match there {
+        Some(_) => false,
+        None => matched,
     }
 }
 
@@ -110,11 +126,11 @@ fn add_wildcard(
         (near_place zone.now.hashing zone.now.nsec3s (star ∷ above.now) ∷ [])) }
 {
     let Some(wildcard) = wildcard_below(alloc, above)? else {
-        return Ok(());
+        unreachable!();
     };
     let near = zone.near(alloc, &wildcard.for_ref())?;
     let there = zone.zone().wildcard(alloc, above)?;
-    if near.matched && there.is_none() {
+    if is_collision(near.matched, there) {
         chosen.collides = true;
         return Ok(());
     }
@@ -134,7 +150,9 @@ fn add_missing(
     requires reached { ReachesNone zone.now.zone rtype name.now skipped }
     ensures { OnOk result (AddsFor zone.now rtype (name.now ∷ []) chosen.old chosen.new) }
 {
+    let _chain = zone.chain();
     let found = zone.search(alloc, name)?;
+    let closest = name.behind(skipped);
     match found {
         HashedName::Own(_) => {
             chosen.collides = true;
@@ -145,22 +163,39 @@ fn add_missing(
             next,
             above,
         } => {
-            if above.label_count() + skipped > name.label_count() {
+            if above.label_count() > closest.label_count() {
                 chosen.collides = true;
                 return Ok(());
             }
-            let wild = zone.zone().wildcard(alloc, &name.behind(skipped))?;
+            let wild = zone.zone().wildcard(alloc, &closest)?;
             if gives(wild, rtype) {
                 return add(chosen, next);
             }
-            add(chosen, encloser)?;
-            add(chosen, next)?;
+            add_both(chosen, encloser, next)?;
             add_wildcard(zone, alloc, &above, chosen)
         }
     }
 }
 
-/// Adds the NSEC3s of a cut that has no DS records, given the places of its records.
+/// Adds the NSEC3s that say of a delegation point that it has no DS records, if it has none.
+fn add_insecure(
+    zone: &HashedZone,
+    alloc: Global,
+    cut: &NameRef<'_>,
+    chosen: &mut Chosen,
+) -> Result<(), OutOfMemory>
+    requires { IsTrue (ends_name cut.now zone.now.zone.apex) }
+    ensures { OnOk result (Adds chosen.old chosen.new false
+        (names_places zone.now (if are_some (owned_records zone.now.zone cut.now 43) then [] else own_proof zone.now cut.now))) }
+{
+    let found = owned_records(zone.zone(), alloc, cut, DS)?;
+    if found.as_slice().is_empty() {
+        return add_own(zone, alloc, cut, chosen);
+    }
+    Ok(())
+}
+
+/// Adds the NSEC3s for a name at or below a cut, given the places of the cut's records.
 fn add_cut(
     zone: &HashedZone,
     alloc: Global,
@@ -171,16 +206,10 @@ fn add_cut(
         → asked_region zone.now.zone t name ≡ BelowCut (at_places zone.now.zone.records (kind_places 2 kinds.now))
         → OnOk result (AddsFor zone.now t (name ∷ []) chosen.old chosen.new) }
 {
-    let servers = of_node(zone.zone(), alloc, kinds, Rtype::NS.to_int())?;
+    let _chain = zone.chain();
+    let servers = of_node(zone.zone(), alloc, kinds, NS)?;
     match servers.as_slice().first() {
-        Some(server) => {
-            let cut = server.owner.for_ref();
-            let found = owned_records(zone.zone(), alloc, &cut, Rtype::DS.to_int())?;
-            if found.as_slice().is_empty() {
-                return add_own(zone, alloc, &cut, chosen);
-            }
-            Ok(())
-        }
+        Some(server) => add_insecure(zone, alloc, &server.owner.for_ref(), chosen),
         None => Ok(()),
     }
 }
@@ -206,7 +235,23 @@ fn add_name(
     }
 }
 
-/// Adds the NSEC3s for the target of a record, if that is an alias to a name in the zone.
+/// Adds the NSEC3s for a name, if it is in the zone.
+fn add_inside(
+    zone: &HashedZone,
+    alloc: Global,
+    name: &NameRef<'_>,
+    rtype: u16,
+    chosen: &mut Chosen,
+) -> Result<(), OutOfMemory>
+    ensures { OnOk result (AddsFor zone.now rtype (inside zone.now (name.now ∷ [])) chosen.old chosen.new) }
+{
+    if zone.is_in_zone(name) {
+        return add_name(zone, alloc, name, rtype, chosen);
+    }
+    Ok(())
+}
+
+/// Adds the NSEC3s for the target of a record, if that is an alias.
 fn add_target(
     zone: &HashedZone,
     alloc: Global,
@@ -216,14 +261,12 @@ fn add_target(
 ) -> Result<(), OutOfMemory>
     ensures { OnOk result (AddsFor zone.now rtype (inside zone.now (led_to alias.now)) chosen.old chosen.new) }
 {
-    if alias.rdata.rtype() != Rtype::CNAME {
+    if alias.rdata.rtype().to_int() != CNAME {
         return Ok(());
     }
     match record_target(alias) {
-        Some(name) if zone.is_in_zone(&name.for_ref()) => {
-            add_name(zone, alloc, &name.for_ref(), rtype, chosen)
-        }
-        _ => Ok(()),
+        Some(name) => add_inside(zone, alloc, &name.for_ref(), rtype, chosen),
+        None => Ok(()),
     }
 }
 

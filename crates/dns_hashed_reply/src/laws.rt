@@ -1,6 +1,18 @@
 //! Laws of replies from zones that are signed with NSEC3.
 
-ghost use Rattle.dns_hashed_reply.specs.HashedLaws.{HashedRepliesAreAccepted, NothingWithoutDo3};
+ghost use Rattle.dns_hashed_reply.specs.HashedLaws.{HashedRepliesAreAccepted, NothingWithoutDo3, SigningAddsAll3, SigningAddsOnly3};
+
+/// Signing adds RRSIG, NSEC3 and DS records behind each section, and changes nothing, unless a hash collides.
+#[tactic(auto, using(crate::proofs::AddLaws3::signing_adds_only3))]
+pub fn signing_adds_only3()
+    ensures { SigningAddsOnly3 }
+{}
+
+/// With DO each RRset has its RRSIGs, and each NSEC3 that is chosen is there with its own.
+#[tactic(auto, using(crate::proofs::AddLaws3::signing_adds_all3))]
+pub fn signing_adds_all3()
+    ensures { SigningAddsAll3 }
+{}
 
 /// Without DO nothing is added.
 #[tactic(auto, using(crate::proofs::AddLaws3::nothing_without_do3))]

@@ -18,11 +18,13 @@
 //!
 //! Nothing here makes or verifies a signature: zones are signed elsewhere.
 //!
-//! # What is to be proved (nothing here is, yet)
+//! # What is to be proved (not all of it is, yet)
 //!
 //! - What is built is the message of `hashed_reply`, section for section (`specs/HashedReplies.antt`).
+//! - Signing adds and never changes (`signing_adds_only3`), and adds all (`signing_adds_all3`). Without DO nothing is added
+//!   (`nothing_without_do3`).
 //! - If the chain has a proof at all and no hash collides, a validator accepts what the reply says of each name
-//!   (`hashed_replies_are_accepted`). Without DO nothing is added (`nothing_without_do3`).
+//!   (`hashed_replies_are_accepted`).
 //!
 //! # What a body could still get away with
 //!
@@ -33,5 +35,7 @@ mod denials;
 mod laws;
 mod reply;
 
-pub use laws::{hashed_replies_are_accepted, nothing_without_do3};
+pub use laws::{
+    hashed_replies_are_accepted, nothing_without_do3, signing_adds_all3, signing_adds_only3,
+};
 pub use reply::hashed_reply;

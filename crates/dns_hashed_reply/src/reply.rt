@@ -16,7 +16,6 @@ use dns_hashed_zone::HashedZone;
 use dns_name::OutOfMemory;
 use dns_name_server::name_server_reply;
 use dns_signed_reply::{PlainReply, asks_do, ds_of, extended, in_room, plain_reply, with_rrsigs};
-use dns_zone::begin_reply;
 use std::alloc::Global;
 
 /// Adds copies of records.
@@ -30,6 +29,21 @@ fn add_records(alloc: Global, records: &[Record], into: &mut Vec<Record>) -> Res
     Ok(())
 }
 
+/// Adds copies of the NSEC3 record of a place and of its RRSIGs.
+fn add_group(
+    zone: &HashedZone,
+    alloc: Global,
+    place: usize,
+    into: &mut Vec<Record>,
+) -> Result<(), OutOfMemory>
+    ensures { OnOk result (into.new.items ≡ into.old.items ++ group_at zone.now place) }
+{
+    match zone.group(place) {
+        Some(group) => add_records(alloc, group, into),
+        None => Ok(()),
+    }
+}
+
 /// The NSEC3 records of places with their RRSIGs.
 fn hashed_records(
     zone: &HashedZone,
@@ -40,10 +54,7 @@ fn hashed_records(
 {
     let mut records = Vec::new(alloc);
     'each: for place in places {
-        match zone.group(*place) {
-            Some(group) => add_records(alloc, group, &mut records)?,
-            None => {}
-        }
+        add_group(zone, alloc, *place, &mut records)?;
     }
     Ok(records)
 }
@@ -95,11 +106,19 @@ fn do_reply(
 }
 
 /// The reply where a hash collides (RFC 5155, section 7.2.9).
-fn failed(alloc: Global, query: &Message) -> Result<AdditionalBuilder, PushError>
-    ensures { Builds (unlimited (zone_message query.now failure)) result }
+fn failed(alloc: Global) -> PlainReply
+    ensures { said result ≡ failure }
 {
-    let reply = begin_reply(alloc, query, Rcode::SERVFAIL, false)?;
-    Ok(reply.additional())
+    let answers = Vec::new(alloc);
+    let authority = Vec::new(alloc);
+    let additional = Vec::new(alloc);
+    PlainReply {
+        aa: false,
+        rcode: Rcode::SERVFAIL,
+        answers,
+        authority,
+        additional,
+    }
 }
 
 /// The reply with RRSIGs and proofs.
@@ -119,7 +138,7 @@ fn with_proofs(
     let plain = plain_reply(tree, alloc, question)?;
     let found = chosen_for(zone, alloc, question, plain.answers.as_slice())?;
     if found.collides {
-        return failed(alloc, query);
+        return in_room(alloc, query, &failed(alloc), 0, room);
     }
     let unsigned = plain.additional.len();
     let signed = do_reply(zone, alloc, plain, found.places.as_slice())?;
