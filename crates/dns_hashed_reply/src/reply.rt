@@ -133,6 +133,7 @@ fn with_proofs(
     ensures { Builds (unlimited (zone_message query.now
         (with_proofs zone.now room query.now question.now (name_server_reply zone.now.zone question.now)))) result }
 {
+    let _chain = zone.chain();
     let tree = zone.zone();
     let _lawful = tree.records();
     let plain = plain_reply(tree, alloc, question)?;
