@@ -65,6 +65,15 @@ fn is_any_at(name: &NameRef<'_>, resource: &Record) -> bool
     resource.owner.name_eq(name) && resource.rdata.rtype().to_int() == ANY
 }
 
+/// Whether a name owns a record of the type 255.
+fn owns_any(zone: &ZoneTree, name: &NameRef<'_>) -> bool
+    ensures { result ≡ list_any (is_record_at name.now 255) zone.now.records }
+{
+    zone.records()
+        .iter()
+        .any(|resource| is_any_at(name, resource))
+}
+
 /// Whether the zone has the type 255 at a name.
 fn has_any(zone: &ZoneTree, name: &NameRef<'_>, cut: bool) -> bool
     ensures { result ≡ (list_any (is_record_at name.now 255) zone.now.records && not cut) }
@@ -72,7 +81,7 @@ fn has_any(zone: &ZoneTree, name: &NameRef<'_>, cut: bool) -> bool
     if cut {
         return false;
     }
-    zone.records().iter().any(|resource| is_any_at(name, resource))
+    owns_any(zone, name)
 }
 
 /// Whether the zone has a type at a name with these places.

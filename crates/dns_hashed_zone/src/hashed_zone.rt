@@ -7,7 +7,7 @@ ghost use Rattle.dns_route.specs.Routes.{ends_name};
 ghost use Rattle.dns_zone.specs.Owned.{AreLawful};
 ghost use Rattle.dns_zone_tree.specs.TreeErrors.{tree_error};
 ghost use Rattle.dns_denial.specs.Nsec3.{IsWhole3, is_matched};
-ghost use Rattle.dns_hashed_zone.specs.HashedStates.{all_records, items_of};
+ghost use Rattle.dns_hashed_zone.specs.HashedStates.{all_records, items_of, joined};
 ghost use Rattle.dns_hashed_zone.specs.MadeHashed.{AreSized, IsBroken, IsChainedAs3, IsGrouped, IsMadeOf3, IsRefusedAs3, Refuses3};
 ghost use Rattle.dns_hashed_zone.specs.Searches.{IsFound, near_place};
 
@@ -135,10 +135,11 @@ impl HashedZone {
         &self.zone
     }
 
-    /// The chain, which is whole.
+    /// The chain, which is whole. The data of its NSEC3 records and of their RRSIGs can be written.
     pub fn chain(&self) -> &HashedChain
         ensures value { result.now ≡ self.now.nsec3s }
         ensures whole { IsWhole3 self.now.zone self.now.hashing result.now }
+        ensures lawful { AreLawful (joined self.now.groups) }
     {
         &self.chain
     }

@@ -12,7 +12,7 @@ use Rattle.dns_hashed_zone.proofs.check.checked.Goals as goal
 
 pub first_unlisted-requires-clause-none : goal.first_unlisted-requires-clause-none
 first_unlisted-requires-clause-none c =
-    c.as_mut_slice.ensures.value ∙ (c.in_ok-met.ensures.items ∙ splat_is_map c.args.nsecs.now (length c.args.nsecs.now) false refl)
+    c.as_mut_slice.ensures.value ∙ (c.in_ok-met.ensures.items_if_clones_equal (λ y h. h) ∙ splat_is_map c.args.nsecs.now (length c.args.nsecs.now) false refl)
 
 pub first_unlisted-requires-clause-rooted : goal.first_unlisted-requires-clause-rooted
 first_unlisted-requires-clause-rooted c = c.in_ok-rooted.ensures ∙ ap (is_matched c.args.hashing.now c.args.nsecs.now) (c.for_ref.ensures.value ∙ c.apex.ensures)
@@ -29,9 +29,10 @@ returns-in-Some-first_unmet c =
     let m : now ≡ map (λ (n : Nsec3State). list_any (λ (r : Record). is_met z h r n) z.records) ns = c.in_ok-unlisted.ensures.met c.in_default.is in
     let k : length now ≡ c.in_ok-met.met.len =
     omega (arith, ap length m, length-map ns (λ (n : Nsec3State). list_any (λ (r : Record). is_met z h r n) z.records), c.in_ok-met.ensures.len) in
-    let e = c.as_slice.ensures.value ∙ (with_items_is c.in_ok-met.met now k ∙ m) in
-    (record { listed = sym c.in_ok-unlisted.ensures.listed ∙ c.in_default.is },
-    sym (unmet_is z h ns c.as_slice.result.now e) ∙ (sym c.first_unmet.ensures ∙ c.in-Some-first_unmet.is))
+    let e = c.as_slice.ensures.value ∙ (with_items_is c.in_ok-met.met now k ∙ m) in (
+      record { listed = sym c.in_ok-unlisted.ensures.listed ∙ c.in_default.is },
+      sym (unmet_is z h ns c.as_slice.result.now e) ∙ (sym c.first_unmet.ensures ∙ c.in-Some-first_unmet.is),
+    )
 
 pub returns-in-Some-first_unlinked : goal.returns-in-Some-first_unlinked
 returns-in-Some-first_unlinked c =
@@ -42,11 +43,13 @@ returns-in-Some-first_unlinked c =
     let m : now ≡ map (λ (n : Nsec3State). list_any (λ (r : Record). is_met z h r n) z.records) ns = c.in_ok-unlisted.ensures.met c.in_default.is in
     let k : length now ≡ c.in_ok-met.met.len =
     omega (arith, ap length m, length-map ns (λ (n : Nsec3State). list_any (λ (r : Record). is_met z h r n) z.records), c.in_ok-met.ensures.len) in
-    let e = c.as_slice.ensures.value ∙ (with_items_is c.in_ok-met.met now k ∙ m) in
-    (record {
-      listed = record { listed = sym c.in_ok-unlisted.ensures.listed ∙ c.in_default.is };
-      founded = sym (unmet_is z h ns c.as_slice.result.now e) ∙ (sym c.first_unmet.ensures ∙ c.in_default-first_unmet.is);
-    }, c.in-Some-first_unlinked.ensures)
+    let e = c.as_slice.ensures.value ∙ (with_items_is c.in_ok-met.met now k ∙ m) in (
+      record {
+        listed = record { listed = sym c.in_ok-unlisted.ensures.listed ∙ c.in_default.is };
+        founded = sym (unmet_is z h ns c.as_slice.result.now e) ∙ (sym c.first_unmet.ensures ∙ c.in_default-first_unmet.is);
+      },
+      c.in-Some-first_unlinked.ensures,
+    )
 
 pub returns : goal.returns
 returns c =
