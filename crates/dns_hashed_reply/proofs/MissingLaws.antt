@@ -2,7 +2,7 @@
 use Rattle.std.proofs.Common.{◌≡◌, ℕ, zero, suc, ◌+◌, ◌≤◌, ◌<◌, Bool, true, false, List, [], ◌∷◌, ◌++◌, length, drop, map, get_or, nat_eq, Some, None, refl, ap, sym, subst, ◌∙◌, arith, inl, inr, length-append}
 use Rattle.std.specs.Prelude.{◌||◌, ◌&&◌, ◌⊎◌, not, if◌then◌else◌, Option}
 use Rattle.std.specs.List.{Contains, slice_get, cons_option}
-use Rattle.std.proofs.lemmas.Bool.{true≢false, and_from, cases_Bool, false_from_ne_true, or_left}
+use Rattle.std.proofs.lemmas.Bool.{true≢false, and_from, cases_lt, false_from_ne_true, or_left}
 use Rattle.dns_name.specs.Canonical.{same_name}
 use Rattle.dns_name.specs.Labels.{AreLabels, IsName, spell}
 use Rattle.dns_message.specs.declared.record.Record.{Record}
@@ -33,6 +33,14 @@ use Rattle.dns_hashed_zone.specs.Searches.{near_place}
 use Rattle.dns_hashed_reply.specs.Choices.{names_places}
 use Rattle.dns_hashed_reply.specs.HashedReplies.{collides, encloser_of, fails_at, fails_by, fails_within, missing_proof, own_proof, places_of, proved_by, proved_names, wildcard_of}
 use Rattle.dns_hashed_reply.proofs.ApartLaws.{exists_up}
+
+-- what isn't longer
+pub not_longer : (b : Bool) (x y : ℕ) → b ≡ false → (x < y → b ≡ true) → y ≤ x
+not_longer b x y e f = by_order (cases_lt x y)
+  where
+    by_order : (x < y) ⊎ (y ≤ x) → y ≤ x
+    by_order (inl l) = absurd (true≢false (sym (f l) ∙ e))
+    by_order (inr l) = l
 
 -- ---- closest enclosers
 

@@ -1,6 +1,6 @@
 //! The NSEC3 records that prove what a reply says is absent.
 
-ghost use Rattle.std.specs.Prelude.{◌≡◌, ◌≤◌, ◌&&◌, ◌∷◌, [], false, not, nat_eq, if◌then◌else◌, is_some, ℕ, List, length, IfOk, OnOk, IsTrue, Option};
+ghost use Rattle.std.specs.Prelude.{◌≡◌, ◌≤◌, ◌<◌, ◌↔◌, ◌&&◌, ◌∷◌, [], false, not, nat_eq, if◌then◌else◌, is_some, ℕ, List, length, IfOk, OnOk, IsTrue, Option};
 ghost use Rattle.std.specs.List.{flat_map, list_any};
 ghost use Rattle.std.specs.Option.{option_copied};
 ghost use Rattle.dns_name.specs.Labels.{spell};
@@ -137,6 +137,13 @@ fn add_wildcard(
     add(chosen, near.place)
 }
 
+/// Whether a name has more labels than another.
+fn is_longer(name: &NameRef<'_>, other: &NameRef<'_>) -> bool
+    ensures { IsTrue result ↔ (length other.now < length name.now) }
+{
+    name.label_count() > other.label_count()
+}
+
 /// Adds the NSEC3s for a name that doesn't exist, whose closest encloser is after that many labels, where a type is asked for.
 fn add_missing(
     zone: &HashedZone,
@@ -151,6 +158,7 @@ fn add_missing(
     ensures { OnOk result (AddsFor zone.now rtype (name.now ∷ []) chosen.old chosen.new) }
 {
     let _chain = zone.chain();
+    let _named = name.as_slice();
     let found = zone.search(alloc, name)?;
     let closest = name.behind(skipped);
     match found {
@@ -163,7 +171,7 @@ fn add_missing(
             next,
             above,
         } => {
-            if above.label_count() > closest.label_count() {
+            if is_longer(&above, &closest) {
                 chosen.collides = true;
                 return Ok(());
             }

@@ -13,13 +13,13 @@ use Rattle.dns_hashed_reply.proofs.ChoiceLaws.{adds_as, adds_fails}
 use Rattle.dns_hashed_reply.proofs.denials.add_wildcard.Goals as goal
 
 pub unreachable-requires : goal.unreachable-requires
-unreachable-requires c = absurd (omega (arith, rw c.in_default.is at c.in_ok-wildcard_below.ensures, c.requires))
+unreachable-requires c = absurd (omega (arith, rw c.in_default.is at c.in_ok-wildcard.ensures, c.requires))
 
 pub returns-then-is_collision : goal.returns-then-is_collision
 returns-then-is_collision c =
     let s = c.args.zone.now in
     let name = star ∷ c.args.above.now in
-    let e : c.for_ref.result ≡ name = c.for_ref.ensures.value ∙ rw c.in-Some.is at c.in_ok-wildcard_below.ensures in
+    let e : c.for_ref.result ≡ name = c.for_ref.ensures.value ∙ rw c.in-Some.is at c.in_ok-wildcard.ensures in
     let f = (subst (λ (y : ZoneState). IsNode y name (option_copied c.in_ok-there.there)) c.zone.ensures c.in_ok-there.ensures).there in
     let m : c.in_ok-near.near.matched ≡ is_matched s.hashing s.nsec3s name = c.in_ok-near.ensures.matched ∙ ap (is_matched s.hashing s.nsec3s) e in
     let k : c.is_collision.result ≡ collides s name = c.is_collision.ensures ∙ (λ i. m i && not (f i)) in
@@ -29,7 +29,7 @@ pub returns : goal.returns
 returns c =
     let s = c.args.zone.now in
     let name = star ∷ c.args.above.now in
-    let e : c.for_ref.result ≡ name = c.for_ref.ensures.value ∙ rw c.in-Some.is at c.in_ok-wildcard_below.ensures in
+    let e : c.for_ref.result ≡ name = c.for_ref.ensures.value ∙ rw c.in-Some.is at c.in_ok-wildcard.ensures in
     let f = (subst (λ (y : ZoneState). IsNode y name (option_copied c.in_ok-there.there)) c.zone.ensures c.in_ok-there.ensures).there in
     let m : c.in_ok-near.near.matched ≡ is_matched s.hashing s.nsec3s name = c.in_ok-near.ensures.matched ∙ ap (is_matched s.hashing s.nsec3s) e in
     let k : c.is_collision.result ≡ collides s name = c.is_collision.ensures ∙ (λ i. m i && not (f i)) in
