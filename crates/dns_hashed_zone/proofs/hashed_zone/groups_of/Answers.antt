@@ -14,7 +14,7 @@ pub returns-in_err-checked : goal.returns-in_err-checked
 returns-in_err-checked c =
     let z = c.args.zone.now in
     let h = c.args.hashing.now in
-    broken_by z h c.args.chain.now c.args.hashed.items c.in_err-checked.error (subst (λ (ns : List Nsec3State). Breaks3 z h ns c.in_err-checked.error) c.nsecs-nsecs.ensures.value c.in_err-checked.ensures)
+    broken_by z h c.args.chain.now c.args.hashed.items c.in_err-checked.field-0 (subst (λ (ns : List Nsec3State). Breaks3 z h ns c.in_err-checked.field-0) c.nsecs-nsecs.ensures.value c.in_err-checked.ensures)
 
 pub returns : goal.returns
 returns c =
