@@ -145,7 +145,8 @@ fn is_type_listed(cut: bool, nsec: &Nsec3, rtype: u16) -> bool
 
 /// Whether the type of the record at a place is listed, if it is to be.
 fn is_listed(records: &[Record], kind: &TypedPlace, cut: bool, nsec: &Nsec3) -> bool
-    ensures { result ≡ list_all (λ r. is_type_listed cut nsec.now (data_type r.rdata)) (at_places records.now (places_of 255 (kind.now ∷ []))) }
+    ensures { result ≡ list_all (λ r. is_type_listed cut nsec.now (data_type r.rdata))
+        (at_places records.now (places_of 255 (kind.now ∷ []))) }
 {
     match kind.record(records, ANY) {
         Some(resource) => is_type_listed(cut, nsec, resource.rdata.rtype().to_int()),
@@ -332,7 +333,8 @@ fn is_listed_at(
 /// Whether a record has the owner of the one before it, letter by letter.
 fn is_seen(records: &[Record], index: usize) -> bool
     requires { index < length records.now }
-    ensures { IsTrue result → (d : Record) → (0 < index) × ((slice_index_or records.now index d).owner ≡ (slice_index_or records.now (index - 1) d).owner) }
+    ensures { IsTrue result → (d : Record) → (0 < index)
+        × ((slice_index_or records.now index d).owner ≡ (slice_index_or records.now (index - 1) d).owner) }
 {
     if index == 0 {
         return false;

@@ -1,5 +1,6 @@
 use Rattle.std.proofs.Common.{◌≡◌, ℕ, List, subst, sym}
 use Rattle.std.specs.Prelude.{MatchResult}
+use Rattle.std.proofs.lemmas.Result.{err_from_is_err_and}
 use Rattle.dns_denial.specs.Nsec3.{IsChained3, Nsec3State}
 use Rattle.dns_hashed_zone.specs.HashedChecks.{Breaks3}
 use Rattle.dns_hashed_zone.specs.HashedStates.{AreGroupsOf, items_of}
@@ -12,9 +13,10 @@ grouped-requires-clause-sized c = subst AreSized (sym c.nsecs-nsecs.ensures.valu
 
 pub returns-in_err-checked : goal.returns-in_err-checked
 returns-in_err-checked c =
+    let p = err_from_is_err_and c.from_residual.result c.from_residual.ensures.1 in
     let z = c.args.zone.now in
     let h = c.args.hashing.now in
-    broken_by z h c.args.chain.now c.args.hashed.items c.in_err-checked.field-0 (subst (λ (ns : List Nsec3State). Breaks3 z h ns c.in_err-checked.field-0) c.nsecs-nsecs.ensures.value c.in_err-checked.ensures)
+    rw (p.1, p.2) (broken_by z h c.args.chain.now c.args.hashed.items c.in_err-checked.field-0.0 (subst (λ (ns : List Nsec3State). Breaks3 z h ns c.in_err-checked.field-0.0) c.nsecs-nsecs.ensures.value c.in_err-checked.ensures))
 
 pub returns : goal.returns
 returns c =
