@@ -32,11 +32,11 @@ same_number i j e = grind (arith, nat_tests)
 
 kept_seen : (seen ks : List ℕ) (k : ℕ) → Contains seen k → Contains (behind_once seen ks) k
 kept_seen seen [] k c = c
-kept_seen seen (j ∷ js) k c = by_test (list_any (nat_eq j) seen)
+kept_seen seen (j ∷ js) k c = by_test (kept_seen seen js k c) (kept_seen (seen ++ j ∷ []) js k (in_left seen (j ∷ []) k c)) (list_any (nat_eq j) seen)
   where
-    by_test : (b : Bool) → Contains (if b then behind_once seen js else behind_once (seen ++ j ∷ []) js) k
-    by_test true = kept_seen seen js k c
-    by_test false = kept_seen (seen ++ j ∷ []) js k (in_left seen (j ∷ []) k c)
+    by_test : Contains (behind_once seen js) k → Contains (behind_once (seen ++ j ∷ []) js) k → (b : Bool) → Contains (if b then behind_once seen js else behind_once (seen ++ j ∷ []) js) k
+    by_test f g true = f
+    by_test f g false = g
 
 at_end : (xs : List ℕ) (k : ℕ) → Contains (xs ++ k ∷ []) k
 at_end [] k = (zero, omega arith, refl)
@@ -44,11 +44,11 @@ at_end (x ∷ xs) k = let i = at_end xs k in (suc i.0, omega (arith, i.1), i.2)
 
 pub kept_once : (seen ks : List ℕ) (k : ℕ) → Contains ks k → Contains (behind_once seen ks) k
 kept_once seen [] k c = absurd (omega (arith, c.1))
-kept_once seen (j ∷ js) k (suc i, l, e) = by_test (list_any (nat_eq j) seen)
+kept_once seen (j ∷ js) k (suc i, l, e) = by_test (kept_once seen js k (i, omega (arith, l), e)) (kept_once (seen ++ j ∷ []) js k (i, omega (arith, l), e)) (list_any (nat_eq j) seen)
   where
-    by_test : (b : Bool) → Contains (if b then behind_once seen js else behind_once (seen ++ j ∷ []) js) k
-    by_test true = kept_once seen js k (i, omega (arith, l), e)
-    by_test false = kept_once (seen ++ j ∷ []) js k (i, omega (arith, l), e)
+    by_test : Contains (behind_once seen js) k → Contains (behind_once (seen ++ j ∷ []) js) k → (b : Bool) → Contains (if b then behind_once seen js else behind_once (seen ++ j ∷ []) js) k
+    by_test f g true = f
+    by_test f g false = g
 kept_once seen (j ∷ js) k (zero, l, e) = by_test (list_any (nat_eq j) seen) refl
   where
     by_test : (b : Bool) → list_any (nat_eq j) seen ≡ b → Contains (if b then behind_once seen js else behind_once (seen ++ j ∷ []) js) k

@@ -187,11 +187,11 @@ module _ (s : HashedState) (chosen : List Nsec3State) (t : ℕ) (name : List (Li
     -- ---- one that doesn't
 
     module _ (x : exists z name ≡ false) where
-      cut : is_cut_off z name ≡ false
-      cut = false_from_ne_true (is_cut_off z name) (λ k. true≢false (sym (there z start t name k r) ∙ x))
+      uncut : is_cut_off z name ≡ false
+      uncut = false_from_ne_true (is_cut_off z name) (λ k. true≢false (sym (there z start t name k r) ∙ x))
 
       answered : IsAnswered z name
-      answered = record { cut = cut; dname = r.dname }
+      answered = record { cut = uncut; dname = r.dname }
 
       above : any_matched h ns name ≡ true
       above = inside z h ns w name within
@@ -253,7 +253,7 @@ module _ (s : HashedState) (chosen : List Nsec3State) (t : ℕ) (name : List (Li
             let p : CanBeDenied z (wildcard_of s name) t = subst (λ (y : List (List ℕ)). CanBeDenied z y t) q (record { deniable = d.deniable; parent = never (nat_eq t 43) (same_name (wildcard z name) z.apex) (not_apex z start name within) }) in
             let y : exists z (wildcard_of s name) ≡ true = subst (λ (a : List (List ℕ)). exists z a ≡ true) q g in
             let m : is_matched h ns (wildcard_of s name) ≡ true = subst (λ (a : List (List ℕ)). is_matched h ns a ≡ true) q l.1 in
-            let u : is_cut_off z (wildcard_of s name) ≡ false = wild_uncut z start (provable h ns name) (answered_above z name (provable h ns name) cut (provable_above h ns name)) in
+            let u : is_cut_off z (wildcard_of s name) ≡ false = wild_uncut z start (provable h ns name) (answered_above z name (provable h ns name) uncut (provable_above h ns name)) in
             at_missing z h ns w name chosen (λ (a : List (List ℕ)). list_any (λ (o : Nsec3State). matches3 h (star ∷ a) o && lacks3 t o) chosen) pick within answered x apart
             (present (λ (o : Nsec3State). matches3 h (wildcard_of s name) o && lacks3 t o) chosen wild.0 wild.1 (lacking z h ns w (wildcard_of s name) t wild.0 (wild_inside z h ns w name within) y u m n p wild.2))
           where

@@ -176,11 +176,11 @@ slice_there (x ∷ rs) (suc k) r e = let i = slice_there rs k r e in (suc i.0, o
 
 head_there : (rs : List Record) (ks : List ℕ) (r : Record) → Some r ≡ head_of (at_places rs ks) → Contains rs r
 head_there rs [] r e = absurd (cc)
-head_there rs (k ∷ ks) r e = by_get (slice_get rs k) refl e
+head_there rs (k ∷ ks) r e = by_get (head_there rs ks r) (slice_get rs k) refl e
   where
-    by_get : (o : Option Record) → slice_get rs k ≡ o → Some r ≡ head_of (cons_option o (at_places rs ks)) → Contains rs r
-    by_get None f g = head_there rs ks r g
-    by_get (Some x) f g = let q : x ≡ r = cc in slice_there rs k r (f ∙ ap (λ (y : Record). Some y) q)
+    by_get : (Some r ≡ head_of (at_places rs ks) → Contains rs r) → (o : Option Record) → slice_get rs k ≡ o → Some r ≡ head_of (cons_option o (at_places rs ks)) → Contains rs r
+    by_get ih None f g = ih g
+    by_get ih (Some x) f g = let q : x ≡ r = cc in slice_there rs k r (f ∙ ap (λ (y : Record). Some y) q)
 
 pub server_inside : (z : ZoneState) → HasStart z → (ks : List ℕ) (r : Record) (cut : List (List ℕ)) → Some r ≡ head_of (at_places z.records ks) → cut ≡ r.owner → ends_name cut z.apex ≡ true
 server_inside z start ks r cut e c = ap (λ (x : List (List ℕ)). ends_name x z.apex) c ∙ within_all z.apex z.records start.within r (head_there z.records ks r e)

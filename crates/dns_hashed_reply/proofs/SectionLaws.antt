@@ -22,10 +22,11 @@ use Rattle.dns_hashed_reply.specs.HashedReplies.{failure, fails, group_at, group
 
 -- ---- the records of places
 
-pub group_next : (s : HashedState) (ks : List ℕ) (i k : ℕ) (now new : List Record) → i < length ks → k ≡ get_or ks i k → now ≡ flat_map (group_at s) (take i ks) → new ≡ now ++ group_at s k → new ≡ flat_map (group_at s) (take (i + 1) ks)
-group_next s ks i k now new l e f g =
+pub group_next : (s : HashedState) (ks : List ℕ) (i : ℕ) (now new : List Record) → i < length ks → now ≡ flat_map (group_at s) (take i ks) → new ≡ now ++ group_at s (get_or ks i 0) → new ≡ flat_map (group_at s) (take (i + 1) ks)
+group_next s ks i now new l f g =
+    let k = get_or ks i 0 in
     let j : flat_map (group_at s) (take (i + 1) ks) ≡ flat_map (group_at s) (take i ks) ++ group_at s k =
-    ap (flat_map (group_at s)) (take_more ks i k l ∙ ap (λ (x : ℕ). take i ks ++ x ∷ []) (sym e))
+    ap (flat_map (group_at s)) (take_more ks i 0 l)
     ∙ (flat_map-append (group_at s) (take i ks) (k ∷ []) ∙ ap (λ (rs : List Record). flat_map (group_at s) (take i ks) ++ rs) (append-nil (group_at s k))) in
     g ∙ (ap (λ (rs : List Record). rs ++ group_at s k) f ∙ sym j)
 

@@ -46,8 +46,8 @@ returns-then-gives c =
     let m : length c.in-Missing.above ≤ length c.behind-closest.result = not_longer c.is_longer.result (length c.behind-closest.result) (length c.in-Missing.above) c.if-is_longer.false c.is_longer.ensures.1 in
     let l : length (encloser_of s name) ≤ length (drop c.args.skipped name) = omega (arith, m, ap length f.1, ap length c.behind-closest.ensures) in
     let e : star ∷ c.behind-closest.result ≡ wildcard s.zone name = ap (λ (x : List (List ℕ)). star ∷ x) (c.behind-closest.ensures ∙ sym c.requires.reached.encloser_) in
-    let n = subst (λ (x : List (List ℕ)). IsNode s.zone x (option_copied c.in_ok-wild.wild)) e (subst (λ (y : ZoneState). IsNode y (star ∷ c.behind-closest.result) (option_copied c.in_ok-wild.wild)) c.zone.ensures c.in_ok-wild.ensures) in
-    let g : c.gives.result ≡ is_given s.zone t name = c.gives.ensures ∙ wild_given s.zone t name c.args.skipped c.requires.reached (option_copied c.in_ok-wild.wild) n in
+    let n = subst (λ (x : List (List ℕ)). IsNode s.zone x (option_copied c.in_ok-wild-in-Missing.wild)) e (subst (λ (y : ZoneState). IsNode y (star ∷ c.behind-closest.result) (option_copied c.in_ok-wild-in-Missing.wild)) c.zone.ensures c.in_ok-wild-in-Missing.ensures) in
+    let g : c.gives.result ≡ is_given s.zone t name = c.gives.ensures ∙ wild_given s.zone t name c.args.skipped c.requires.reached (option_copied c.in_ok-wild-in-Missing.wild) n in
     on_ok c.add.result c.add.ensures (for_one s t c.args.chosen.now c.add.new.chosen name false (c.in-Missing.next ∷ []) (given_fine s t name w c.requires.inside c.args.skipped c.requires.reached l c.gives.result g c.if-gives.true)
     (given_places s t name w c.requires.inside c.args.skipped c.requires.reached c.gives.result c.in-Missing.next g c.if-gives.true f.3))
 
@@ -61,8 +61,8 @@ add_wildcard-requires c =
     let k = some_matched s t name w c.requires.inside c.args.skipped c.requires.reached in
     omega (arith, ap (λ (x : List (List ℕ)). length (spell x)) f.1, room_for s.hashing s.nsec3s name c.as_slice-named.ensures.named f.0 k)
 
-pub returns-in-Missing : goal.returns-in-Missing
-returns-in-Missing c =
+pub returns-in_ok-add_both-in-Missing : goal.returns-in_ok-add_both-in-Missing
+returns-in_ok-add_both-in-Missing c =
     let s = c.args.zone.now in
     let t = c.args.rtype in
     let name = c.args.name.now in
@@ -71,8 +71,8 @@ returns-in-Missing c =
     let m : length c.in-Missing.above ≤ length c.behind-closest.result = not_longer c.is_longer.result (length c.behind-closest.result) (length c.in-Missing.above) c.if-is_longer.false c.is_longer.ensures.1 in
     let l : length (encloser_of s name) ≤ length (drop c.args.skipped name) = omega (arith, m, ap length f.1, ap length c.behind-closest.ensures) in
     let e : star ∷ c.behind-closest.result ≡ wildcard s.zone name = ap (λ (x : List (List ℕ)). star ∷ x) (c.behind-closest.ensures ∙ sym c.requires.reached.encloser_) in
-    let n = subst (λ (x : List (List ℕ)). IsNode s.zone x (option_copied c.in_ok-wild.wild)) e (subst (λ (y : ZoneState). IsNode y (star ∷ c.behind-closest.result) (option_copied c.in_ok-wild.wild)) c.zone.ensures c.in_ok-wild.ensures) in
-    let g : c.gives.result ≡ is_given s.zone t name = c.gives.ensures ∙ wild_given s.zone t name c.args.skipped c.requires.reached (option_copied c.in_ok-wild.wild) n in
+    let n = subst (λ (x : List (List ℕ)). IsNode s.zone x (option_copied c.in_ok-wild-in-Missing.wild)) e (subst (λ (y : ZoneState). IsNode y (star ∷ c.behind-closest.result) (option_copied c.in_ok-wild-in-Missing.wild)) c.zone.ensures c.in_ok-wild-in-Missing.ensures) in
+    let g : c.gives.result ≡ is_given s.zone t name = c.gives.ensures ∙ wild_given s.zone t name c.args.skipped c.requires.reached (option_copied c.in_ok-wild-in-Missing.wild) n in
     let x = c.in-Missing.encloser in
     let y = c.in-Missing.next in
     let above = c.in-Missing.above in
@@ -80,4 +80,4 @@ returns-in-Missing c =
     on_ok c.add_wildcard.result c.add_wildcard.ensures (λ h. for_one s t c.args.chosen.now c.add_wildcard.new.chosen name (false || collides s (star ∷ above)) ((x ∷ y ∷ []) ++ (last ∷ []))
     (ap (λ (a : List (List ℕ)). collides s (star ∷ a)) f.1 ∙ denied_fine s t name w c.requires.inside c.args.skipped c.requires.reached l c.gives.result g c.if-gives.false)
     (denied_places s t name w c.requires.inside c.args.skipped c.requires.reached c.gives.result x y above g c.if-gives.false f.1 f.2 f.3)
-    (adds_then c.args.chosen.now c.add_both.new.chosen c.add_wildcard.new.chosen false (collides s (star ∷ above)) (x ∷ y ∷ []) (last ∷ []) c.in_ok-add_both.ensures h))
+    (adds_then c.args.chosen.now c.add_both.new.chosen c.add_wildcard.new.chosen false (collides s (star ∷ above)) (x ∷ y ∷ []) (last ∷ []) c.in_ok-add_both-in-Missing.ensures h))
