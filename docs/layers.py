@@ -19,7 +19,7 @@ GROUPS = [
     ("For callers from C", 1, 3, 1, "#f6d6c4", "dns_embed dns_reply_builder nutscythe_c"),
     ("Servers over sockets", 2, 0, 1, "#f6d6c4", "dns_transport dns_query_link dns_socket_addr"),
     ("Scripts, run, floods", 2, 2, 2, "#f6d6c4", "dns_trace dns_script dns_flood dns_run"),
-    ("Signed zones", 3, 3, 1, "#f8e7b9", "dns_denial dns_nsec_data dns_nsec3_data dns_signed_zone dns_signed_reply dns_hashed_zone"),
+    ("Signed zones", 3, 3, 1, "#f8e7b9", "dns_denial dns_nsec_data dns_nsec3_data dns_signed_zone dns_signed_reply dns_hashed_zone dns_hashed_reply"),
     ("Loops over links and sockets", 3, 0, 1, "#f6d6c4", "dns_recorder dns_stream_driver dns_dgram_driver dns_accepts dns_host dns_account dns_workers"),
     ("Several zones, transfers", 2, 1, 1, "#f8e7b9", "dns_transfer dns_incoming dns_authority dns_secondary dns_secondary_service dns_generation dns_sent_transfer dns_key_access"),
     ("A forwarding proxy", 3, 2, 1, "#f8e7b9", "dns_decide dns_lookup dns_proxy dns_fronts dns_upstreams dns_outstanding dns_proxy_config"),

@@ -70,3 +70,4 @@ pub use laws::{
 };
 pub use nsec::Nsec;
 pub use nsec3::{HashedChain, Nsec3};
+pub use wildcard::wildcard_below;

@@ -8,7 +8,7 @@ use dns_name::{Name, NameRef, OutOfMemory, names_are_the_grammar};
 use std::alloc::Global;
 
 /// The wildcard below a name; none if it would be too long.
-pub(crate) fn wildcard_below(alloc: Global, name: &NameRef<'_>) -> Result<Option<Name>, OutOfMemory>
+pub fn wildcard_below(alloc: Global, name: &NameRef<'_>) -> Result<Option<Name>, OutOfMemory>
     ensures { IfOk result (λ w. MatchOption w (253 < length (spell name.now)) (λ n. n ≡ star ∷ name.now)) }
 {
     let octets = name.as_slice();

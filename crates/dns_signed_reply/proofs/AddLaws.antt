@@ -19,7 +19,7 @@ use Rattle.dns_signed_zone.specs.SignedZones.{SignedState}
 use Rattle.dns_signed_reply.specs.SignedReplies.{as_room, asks_do, chosen, denials, do_reply, ds_of, has_room, have_signatures, if_within, nsec_records_of, others, owned_records, proved_authority, reached_records, rrsigs, rrsigs_of, timed}
 use Rattle.dns_signed_reply.specs.ReplyLaws.{NothingWithoutDo, SigningAddsOnly}
 
-abbrev AreAdded : List Record → Type 0
+abbrev pub AreAdded : List Record → Type 0
 AreAdded rs = AllByRecursion (λ (r : Record). is_added r ≡ true) rs
 
 -- ---- lists of records that are added
@@ -41,7 +41,7 @@ kept : (p : Record → Bool) (rs : List Record) → AreAdded rs → AreAdded (fi
 kept p [] h = tt
 kept p (r ∷ rs) h = kept_step p r rs (p r) h.0 (kept p rs h.1)
 
-both_added : (xs ys : List Record) → AreAdded xs → AreAdded ys → AreAdded (xs ++ ys)
+pub both_added : (xs ys : List Record) → AreAdded xs → AreAdded ys → AreAdded (xs ++ ys)
 both_added [] ys h k = k
 both_added (x ∷ xs) ys h k = (h.0, both_added xs ys h.1 k)
 
@@ -72,7 +72,7 @@ of_added z all r =
     (timed_added r (filter (is_signature t) had)
     (added (is_signature t) (λ s h. or_left (is_of 46 s || is_of 47 s) (is_of 50 s || is_of 43 s) (or_left (is_of 46 s) (is_of 47 s) (and_parts (is_of 46 s) (nat_eq (type_covered s.rdata) t) h).0)) had))
 
-rrsigs_added : (z : ZoneState) (all seen rs : List Record) → AreAdded (rrsigs z all seen rs)
+pub rrsigs_added : (z : ZoneState) (all seen rs : List Record) → AreAdded (rrsigs z all seen rs)
 rrsigs_added z all seen [] = tt
 rrsigs_added z all seen (r ∷ rs) =
     both_added (if list_any (is_beside r) seen then [] else rrsigs_of z all r) (rrsigs z all (r ∷ seen) rs) (either (list_any (is_beside r) seen) (rrsigs_of z all r) (of_added z all r)) (rrsigs_added z all (r ∷ seen) rs)
@@ -83,7 +83,7 @@ first_or_none : (b : Bool) (xs : List Record) → AreAdded xs → AreAdded (if b
 first_or_none true xs h = h
 first_or_none false xs h = tt
 
-ds_added : (z : ZoneState) (rs : List Record) → AreAdded (ds_of z rs)
+pub ds_added : (z : ZoneState) (rs : List Record) → AreAdded (ds_of z rs)
 ds_added z [] = tt
 ds_added z (r ∷ rs) =
     first_or_none (is_of 2 r) (owned_records z r.owner 43)
@@ -103,13 +103,13 @@ nsecs_added z given (n ∷ ns) h =
 
 -- ---- the reply
 
-grown : (rs more : List Record) → AreAdded more → Grows rs (rs ++ more)
+pub grown : (rs more : List Record) → AreAdded more → Grows rs (rs ++ more)
 grown rs more h = record { more = more; whole = refl; added = h }
 
 kept_as_is : (rs : List Record) → Grows rs rs
 kept_as_is rs = record { more = []; whole = sym (append-nil rs); added = tt }
 
-same_reply : (r : ZoneReply) → AddsOnly r r
+pub same_reply : (r : ZoneReply) → AddsOnly r r
 same_reply r = record { aa = refl; rcode = refl; answers = kept_as_is r.answers; authority = kept_as_is r.authority; additional = kept_as_is r.additional }
 
 signed : (s : SignedState) (q : Question) (r : ZoneReply) → AddsOnly r (do_reply s q r)
@@ -131,7 +131,7 @@ signed s q r =
       additional = grown r.additional (rrsigs z r.additional [] r.additional) (rrsigs_added z r.additional [] r.additional);
     }
 
-as_room_adds : (b : Bool) (r x : ZoneReply) → AddsOnly r x → AddsOnly r (if b then x else record x { additional = r.additional })
+pub as_room_adds : (b : Bool) (r x : ZoneReply) → AddsOnly r x → AddsOnly r (if b then x else record x { additional = r.additional })
 as_room_adds true r x h = h
 as_room_adds false r x h = record { aa = h.aa; rcode = h.rcode; answers = h.answers; authority = h.authority; additional = kept_as_is r.additional }
 

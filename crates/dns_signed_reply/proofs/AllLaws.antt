@@ -71,7 +71,7 @@ module _ (z : ZoneState) (all : List Record) where
   picked seen (y ∷ ys) r (suc k, l, e) = behind seen y ys r (picked (y ∷ seen) ys r (k, omega (arith, l), e))
 
 -- records with their RRSIGs have those of each
-has_signatures : (z : ZoneState) (rs : List Record) (r : Record) → Contains rs r → HasSignatures z rs (with_rrsigs z rs) r
+pub has_signatures : (z : ZoneState) (rs : List Record) (r : Record) → Contains rs r → HasSignatures z rs (with_rrsigs z rs) r
 has_signatures z rs r c = let p = picked z rs [] rs r c in by_place p.one p.beside p.place
   where
     by_place : (one : Record) → is_beside r one ≡ true → Contains [] one ⊎ (Contains rs one × ((g : Record) → Contains (rrsigs_of z rs one) g → Contains (rrsigs z rs [] rs) g)) → HasSignatures z rs (with_rrsigs z rs) r

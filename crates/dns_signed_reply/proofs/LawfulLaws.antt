@@ -157,10 +157,10 @@ module _ (z : ZoneState) (h : AreLawful z.records) where
   rrsigs_lawful all seen (r ∷ rs) =
       both_lawful (if list_any (is_beside r) seen then [] else rrsigs_of z all r) (rrsigs z all (r ∷ seen) rs) (either_lawful (list_any (is_beside r) seen) [] (rrsigs_of z all r) tt (of_lawful all r)) (rrsigs_lawful all (r ∷ seen) rs)
 
-  with_lawful : (rs : List Record) → AreLawful rs → AreLawful (with_rrsigs z rs)
+  pub with_lawful : (rs : List Record) → AreLawful rs → AreLawful (with_rrsigs z rs)
   with_lawful rs k = both_lawful rs (rrsigs z rs [] rs) k (rrsigs_lawful rs [] rs)
 
-  ds_lawful : (rs : List Record) → AreLawful (ds_of z rs)
+  pub ds_lawful : (rs : List Record) → AreLawful (ds_of z rs)
   ds_lawful [] = tt
   ds_lawful (r ∷ rs) = either_lawful (is_of 2 r) (owned_records z r.owner 43) [] (reached_lawful r.owner (asked_records z r.owner 43) (asked_lawful r.owner 43)) tt
 

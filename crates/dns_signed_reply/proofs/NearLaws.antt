@@ -207,7 +207,7 @@ module _ (z : ZoneState) where
   dname_region [] ds h = absurd (cc)
   dname_region (l ∷ ls) ds h = dname_down true l ls ds (region z ls) refl (dname_region ls ds) h
 
-  asked_dname : (t : ℕ) (name : List (List ℕ)) (ds : List Record) → asked_region z t name ≡ BelowDname ds → is_under_dname z name ≡ true
+  pub asked_dname : (t : ℕ) (name : List (List ℕ)) (ds : List Record) → asked_region z t name ≡ BelowDname ds → is_under_dname z name ≡ true
   asked_dname t [] ds h = absurd (cc)
   asked_dname t (l ∷ ls) ds h = dname_down (not (nat_eq t 43)) l ls ds (region z ls) refl (dname_region ls ds) h
 

@@ -39,7 +39,7 @@ fn is_answered(zone: &ZoneTree, seen: &[Name], name: &Name) -> bool
 }
 
 /// The reply of a name server to a question for a name at or below the apex of a zone.
-pub(crate) fn plain_reply(
+pub fn plain_reply(
     zone: &ZoneTree,
     alloc: Global,
     question: &QuestionRef<'_>,

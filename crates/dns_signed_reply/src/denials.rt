@@ -45,7 +45,7 @@ fn is_placed(kinds: &Kinds, rtype: u16) -> bool
 }
 
 /// Whether the records of a name, if it exists, answer a type: of the type, or an alias that is followed.
-fn gives(kinds: Option<&Kinds>, rtype: u16) -> bool
+pub fn gives(kinds: Option<&Kinds>, rtype: u16) -> bool
     ensures { result ≡ gives rtype (option_copied kinds.entry) }
 {
     match kinds {

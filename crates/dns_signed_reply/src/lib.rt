@@ -2,6 +2,8 @@
 //!
 //! - `secure_reply` gives the reply of a `SignedZone` to a query and its question. Without DO it is that of dns_name_server.
 //! - `asks_do` says whether a query has an OPT record with DO.
+//! - `plain_reply`, `with_rrsigs`, `ds_of` and `in_room` are the parts of which dns_hashed_reply makes the replies of zones that are
+//!   signed with NSEC3. A `PlainReply` is a reply as its records, not written yet.
 //!
 //! With DO each RRset of the answer and authority sections goes with its RRSIGs. What the reply says is absent goes with the NSEC
 //! records that prove it, each once. A referral has the DS records of the delegation point, or the NSEC record that says there are
@@ -42,8 +44,14 @@ mod reply;
 mod rrsigs;
 mod step;
 
+pub use chain::plain_reply;
+pub use denials::gives;
 pub use laws::{
     chosen_are_given, nothing_without_do, replies_are_accepted, security_bits_are_clear,
     signing_adds_all, signing_adds_only,
 };
-pub use reply::{asks_do, secure_reply};
+pub use plain::PlainReply;
+pub use records::{extended, of_node, owned_records};
+pub use reply::{asks_do, ds_of, in_room, secure_reply};
+pub use rrsigs::with_rrsigs;
+pub use step::follows;

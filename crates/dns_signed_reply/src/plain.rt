@@ -16,12 +16,17 @@ use std::alloc::Global;
 
 /// The response code, whether the answer is authoritative, and the records of three sections.
 #[derive(Drop)]
-pub(crate) struct PlainReply {
-    pub(crate) aa: bool,
-    pub(crate) rcode: Rcode,
-    pub(crate) answers: Vec<Record>,
-    pub(crate) authority: Vec<Record>,
-    pub(crate) additional: Vec<Record>,
+pub struct PlainReply {
+    /// Whether the answer is authoritative.
+    pub aa: bool,
+    /// The response code.
+    pub rcode: Rcode,
+    /// The answer section.
+    pub answers: Vec<Record>,
+    /// The authority section.
+    pub authority: Vec<Record>,
+    /// The additional section.
+    pub additional: Vec<Record>,
 }
 
 /// These answers alone.

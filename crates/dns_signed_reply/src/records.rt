@@ -22,7 +22,7 @@ use std::alloc::Global;
 const DS: u16 = 43;
 
 /// Records, and others after them.
-pub(crate) fn extended(records: Vec<Record>, more: Vec<Record>) -> Result<Vec<Record>, OutOfMemory>
+pub fn extended(records: Vec<Record>, more: Vec<Record>) -> Result<Vec<Record>, OutOfMemory>
     ensures { IfOk result (λ v. v.items ≡ records.items ++ more.items) }
 {
     let mut records = records;
@@ -68,7 +68,7 @@ fn at_kinds(
 }
 
 /// The records of a type at the places of a name.
-pub(crate) fn of_node(
+pub fn of_node(
     zone: &ZoneTree,
     alloc: Global,
     kinds: &Kinds,
@@ -202,7 +202,7 @@ fn owned_within(
 }
 
 /// The records of a type that a name owns, if the zone has authority over it.
-pub(crate) fn owned_records(
+pub fn owned_records(
     zone: &ZoneTree,
     alloc: Global,
     name: &NameRef<'_>,

@@ -36,7 +36,11 @@ pub fn asks_do(query: &Message) -> bool
 }
 
 /// The DS records of the delegation point whose NS records an authority section begins with.
-fn ds_of(zone: &ZoneTree, alloc: Global, authority: &[Record]) -> Result<Vec<Record>, OutOfMemory>
+pub fn ds_of(
+    zone: &ZoneTree,
+    alloc: Global,
+    authority: &[Record],
+) -> Result<Vec<Record>, OutOfMemory>
     ensures { IfOk result (λ v. v.items ≡ ds_of zone.now authority.now) }
 {
     match authority.first() {
@@ -147,7 +151,7 @@ fn keeps_room(built: &Result<AdditionalBuilder, PushError>, room: u16) -> bool
 }
 
 /// The reply to a query as it is built, without the additional records after that many if there is no room for them.
-fn in_room(
+pub fn in_room(
     alloc: Global,
     query: &Message,
     reply: &PlainReply,

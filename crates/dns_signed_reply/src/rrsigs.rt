@@ -148,7 +148,7 @@ fn rrsigs(zone: &ZoneTree, alloc: Global, records: &[Record]) -> Result<Vec<Reco
 }
 
 /// Records, and after them their RRSIGs.
-pub(crate) fn with_rrsigs(
+pub fn with_rrsigs(
     zone: &ZoneTree,
     alloc: Global,
     records: Vec<Record>,

@@ -38,7 +38,7 @@ pub(crate) enum Step {
 }
 
 /// Whether an alias is followed for a type.
-pub(crate) fn follows(rtype: u16) -> bool
+pub fn follows(rtype: u16) -> bool
     ensures { result ≡ follows rtype }
 {
     rtype != CNAME && rtype != ANY
