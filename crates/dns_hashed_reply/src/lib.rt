@@ -18,13 +18,13 @@
 //!
 //! Nothing here makes or verifies a signature: zones are signed elsewhere.
 //!
-//! # What is to be proved (not all of it is, yet)
+//! # What is proved
 //!
 //! - What is built is the message of `hashed_reply`, section for section (`specs/HashedReplies.antt`).
 //! - Signing adds and never changes (`signing_adds_only3`), and adds all (`signing_adds_all3`). Without DO nothing is added
 //!   (`nothing_without_do3`).
 //! - If the chain has a proof at all and no hash collides, a validator accepts what the reply says of each name
-//!   (`hashed_replies_are_accepted`).
+//!   (`hashed_replies_are_accepted`). `IsProvable` of dns_denial says where a span with Opt-Out leaves none.
 //!
 //! # What a body could still get away with
 //!
