@@ -19,6 +19,12 @@ use std::alloc::Global;
 /// The type of NSEC records.
 const NSEC: u16 = 47;
 
+/// The type of NSEC3 records.
+const NSEC3: u16 = 50;
+
+/// The type of the records with the parameters of NSEC3.
+const NSEC3PARAM: u16 = 51;
+
 /// The records that the text of a zone file writes.
 fn read_records(alloc: Global, apex: &Name, text: &[u8]) -> Result<Vec<Record>, ZoneTextError>
     ensures ok { IfOk result (λ records. zone_file apex.now text.now ≡ Ok records.items) }
@@ -32,20 +38,19 @@ fn read_records(alloc: Global, apex: &Name, text: &[u8]) -> Result<Vec<Record>, 
     }
 }
 
-/// The type of NSEC3 records.
-const NSEC3: u16 = 50;
+/// Whether a record is an NSEC3 or NSEC3PARAM record.
+fn is_hashing(resource: &Record) -> bool
+    ensures { result ≡ is_hashing resource.now }
+{
+    let rtype = resource.rdata.rtype().to_int();
+    rtype == NSEC3 || rtype == NSEC3PARAM
+}
 
-/// The type of the records with the parameters of NSEC3.
-const NSEC3PARAM: u16 = 51;
-
-/// Whether an NSEC3 or NSEC3PARAM record is among records.
+/// Whether one is among records.
 fn has_hashes(records: &[Record]) -> bool
     ensures { result ≡ list_any is_hashing records.now }
 {
-    records.iter().any(|resource| {
-        let rtype = resource.rdata.rtype().to_int();
-        rtype == NSEC3 || rtype == NSEC3PARAM
-    })
+    records.iter().any(|resource| is_hashing(resource))
 }
 
 /// Whether an NSEC record is among records.
