@@ -5,3 +5,4 @@ pub mod SectionLaws
 pub mod HashedAccept
 pub mod ChosenLaws
 pub mod AddLaws3
+pub mod GivenLaws3

@@ -1,6 +1,6 @@
 -- What is added to a reply, and that what it says is absent is proved.
 use Rattle.std.specs.Prelude.{ℕ, ◌≡◌, true, false, List, ◌++◌}
-use Rattle.std.specs.List.{Contains}
+use Rattle.std.specs.List.{Contains, flat_map}
 use Rattle.dns_message.specs.declared.question.Question.{Question}
 use Rattle.dns_message.specs.declared.record.Record.{Record}
 use Rattle.dns_name_server.specs.NameServerReplies.{name_server_reply}
@@ -10,11 +10,12 @@ use Rattle.dns_zone.specs.ZoneReply.{ZoneReply}
 use Rattle.dns_denial.specs.Accepted3.{IsProvable, is_accepted3}
 use Rattle.dns_denial.specs.Denials.{CanBeDenied}
 use Rattle.dns_denial.specs.Hashes.{AreSorted3}
-use Rattle.dns_denial.specs.Nsec3.{IsWhole3}
+use Rattle.dns_denial.specs.Nsec3.{IsWhole3, Nsec3State}
 use Rattle.dns_denial.specs.Signed.{AddsOnly}
 use Rattle.dns_signed_reply.specs.ReplyLaws.{HasSignatures}
 use Rattle.dns_signed_reply.specs.SignedReplies.{asked_names, asks_do, ds_of}
-use Rattle.dns_hashed_zone.specs.HashedStates.{HashedState}
+use Rattle.dns_nsec3_data.specs.Nsec3Data.{IsNsec3}
+use Rattle.dns_hashed_zone.specs.HashedStates.{HashedState, IsSigned3}
 use Rattle.dns_hashed_zone.specs.MadeHashed.{IsMadeOf3}
 use Rattle.dns_hashed_reply.specs.HashedReplies.{chosen3, fails, group_at, hashed_reply, places}
 
@@ -40,6 +41,12 @@ SigningAddsAll3 = (s : HashedState) (room : ℕ) (o : List ℕ) (q : Question) �
 abbrev pub NothingWithoutDo3 : Type 0
 NothingWithoutDo3 = (s : HashedState) (room : ℕ) (o : List ℕ) (q : Question) → asks_do o ≡ false
     → hashed_reply s room o q ≡ name_server_reply s.zone q
+
+-- The NSEC3 records of a reply are these NSEC3s: each that is chosen is what one of them says.
+abbrev pub ChosenAreGiven3 : Type 0
+ChosenAreGiven3 = (z : ZoneState) (s : HashedState) (q : Question) (answers : List Record) → IsMadeOf3 z s → IsSigned3 s
+    → AreSorted3 s.nsec3s → (n : Nsec3State) → Contains (chosen3 s q answers) n
+    → (r : Record) × Contains (flat_map (group_at s) (places s q answers)) r × IsNsec3 s.zone.apex s.hashing r n
 
 -- Each absence is proved, if the chain has a proof at all and no hash collides: what the reply says of each name that it is asked for
 -- is accepted with the NSEC3s that are chosen.

@@ -23,6 +23,7 @@
 //! - What is built is the message of `hashed_reply`, section for section (`specs/HashedReplies.antt`).
 //! - Signing adds and never changes (`signing_adds_only3`), and adds all (`signing_adds_all3`). Without DO nothing is added
 //!   (`nothing_without_do3`).
+//! - Each NSEC3 that is chosen is what an NSEC3 record of the reply says (`chosen_are_given3`).
 //! - If the chain has a proof at all and no hash collides, a validator accepts what the reply says of each name
 //!   (`hashed_replies_are_accepted`). `IsProvable` of dns_denial says where a span with Opt-Out leaves none.
 //!
@@ -36,6 +37,7 @@ mod laws;
 mod reply;
 
 pub use laws::{
-    hashed_replies_are_accepted, nothing_without_do3, signing_adds_all3, signing_adds_only3,
+    chosen_are_given3, hashed_replies_are_accepted, nothing_without_do3, signing_adds_all3,
+    signing_adds_only3,
 };
 pub use reply::hashed_reply;
