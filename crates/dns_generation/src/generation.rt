@@ -1,8 +1,8 @@
 //! Zones that were read and judged.
 
-ghost use Rattle.std.specs.Prelude.{◌≡◌, ◌<◌, ◌++◌, ◌∷◌, [], IfErr, OnErr, OnOk, vec_capacity, vec_len};
+ghost use Rattle.std.specs.Prelude.{◌≡◌, ◌<◌, ◌++◌, ◌∷◌, [], length, IfErr, OnErr, OnOk, vec_capacity, vec_len};
 ghost use Rattle.dns_authority.specs.Authorities.{and_data, authority_answer};
-ghost use Rattle.dns_authority.specs.ServedZones.{tree_of};
+ghost use Rattle.dns_authority.specs.ServedZones.{sent_records_of, tree_of};
 ghost use Rattle.dns_secondary_service.specs.Withheld.{withholding};
 ghost use Rattle.dns_generation.specs.Generations.{AddsFile, HasFault, networks_or, summary_of, timers_among, with_withheld, with_zone};
 
@@ -61,13 +61,13 @@ fn timers_among(records: &[Record]) -> Option<SoaTimers>
     None
 }
 
-/// Records in few words.
-fn summary_of(records: &[Record]) -> ZoneSummary
-    ensures { result ≡ summary_of records.now }
+/// That many records in few words, of which these are those of names.
+fn summary_of(records: &[Record], count: usize) -> ZoneSummary
+    ensures { result ≡ summary_of records.now count }
 {
     ZoneSummary {
         timers: timers_among(records),
-        records: records.len(),
+        records: count,
     }
 }
 
@@ -151,7 +151,7 @@ impl Generation {
         summary: ZoneSummary,
     ) -> Result<(), OutOfMemory>
         requires apex { apex ≡ (tree_of zone).apex }
-        requires summary { summary ≡ summary_of (tree_of zone).records }
+        requires summary { summary ≡ summary_of (tree_of zone).records (length (sent_records_of zone)) }
         ensures ok { OnOk result (self.new ≡ with_zone (networks_or own self.old.authority.allowed) zone self.old) }
         ensures err { OnErr result (self.new ≡ self.old) }
     {
@@ -175,7 +175,7 @@ impl Generation {
     {
         let zone = zone_of(alloc, apex, text)?;
         let apex = apex.try_clone(alloc)?;
-        let summary = summary_of(zone.tree().records());
+        let summary = summary_of(zone.tree().records(), zone.record_count());
         self.put(alloc, apex, zone, own, summary)?;
         Ok(())
     }
