@@ -25,6 +25,8 @@ use Rattle.dns_config.specs.declared.prefix.Prefix.{Prefix}
 use Rattle.dns_generation.specs.declared.zone_text_error.ZoneTextError.{ZoneTextError}
 use Rattle.dns_generation.specs.declared.zone_text_error.ZoneTextError.TheVariants.{Line, NotHashed, NotSigned, NotZone, OutOfMemory}
 use Rattle.dns_generation.specs.declared.generation.ZoneSummary.{ZoneSummary}
+use Rattle.dns_generation.specs.declared.signing.ZoneSigning.TheVariants.{Unsigned as Bare}
+use Rattle.dns_generation.specs.Signings.{zone_signing}
 
 abbrev pub network_of : Prefix → Network
 network_of p = record { address = p.address; bits = p.bits }
@@ -105,8 +107,13 @@ pub record GenerationState : Type 0 where
   pub withheld : List (List (List ℕ))
   pub summaries : List ZoneSummary
 
-abbrev pub summary_of : List Record → ℕ → ZoneSummary
-summary_of records count = record { timers = timers_among records; records = count }
+-- a zone in few words
+abbrev pub summary_of : ZoneData → ZoneSummary
+summary_of d = record {
+  timers = timers_among (tree_of d).records;
+  records = length (sent_records_of d);
+  signing = zone_signing d;
+}
 
 -- the networks that may transfer a zone: its own, or those of the authority if it has none
 abbrev pub networks_or : Option (Vec Network Global) → List Network → List Network
@@ -118,14 +125,14 @@ abbrev pub with_zone : List Network → ZoneData → GenerationState → Generat
 with_zone allowed d g = record g {
   authority = and_data allowed d g.authority;
   served = g.served ++ (tree_of d).apex ∷ [];
-  summaries = g.summaries ++ summary_of (tree_of d).records (length (sent_records_of d)) ∷ [];
+  summaries = g.summaries ++ summary_of d ∷ [];
 }
 
 -- a zone without data is after the others
 abbrev pub with_withheld : List (List ℕ) → GenerationState → GenerationState
 with_withheld apex g = record g {
   withheld = g.withheld ++ apex ∷ [];
-  summaries = g.summaries ++ (record { timers = None; records = 0 }) ∷ [];
+  summaries = g.summaries ++ (record { timers = None; records = 0; signing = Bare }) ∷ [];
 }
 
 -- the zone that a file writes, which these networks may transfer, is after the others
