@@ -65,16 +65,18 @@ fn said_by(octets: &[u8]) -> ZoneSigning
     }
 }
 
+/// The first of them.
+fn first_used<'a>(apex: &Name, records: &'a [Record]) -> Option<&'a Record>
+    ensures { option_copied result ≡ find (is_used apex.now) records.now }
+{
+    records.iter().find(|resource| is_used(apex, resource))
+}
+
 /// How the names of a zone are hashed.
 fn hashed_by(zone: &ZoneTree) -> ZoneSigning
     ensures { result ≡ hashed_by (find (is_used zone.now.apex) zone.now.records) }
 {
-    let apex = zone.apex();
-    match zone
-        .records()
-        .iter()
-        .find(|resource| is_used(apex, resource))
-    {
+    match first_used(zone.apex(), zone.records()) {
         Some(resource) => said_by(unknown_octets(resource)),
         None => said_by(&[]),
     }
