@@ -1,10 +1,11 @@
 -- The last NSEC that is not after a name, by its place.
-use Rattle.std.proofs.Common.{◌≡◌, ℕ, ◌+◌, ◌-◌, ◌≤◌, ◌<◌, true, false, List, length, ap, sym, ◌∙◌, arith, inl, inr}
+use Rattle.std.proofs.Common.{◌≡◌, ℕ, zero, suc, ◌+◌, ◌-◌, ◌≤◌, ◌<◌, Bool, true, false, List, [], ◌∷◌, length, ap, sym, ◌∙◌, arith, inl, inr}
 use Rattle.std.specs.Prelude.{◌⊎◌, slice_index_or}
-use Rattle.std.specs.List.{Contains}
+use Rattle.std.specs.List.{Contains, slice_get}
 use Rattle.std.specs.List.Sorted.{IsPartitionPoint, IsPartitionedBy}
+use Rattle.std.specs.Option.{option_map_or}
 use Rattle.std.proofs.lemmas.Bool.{true≢false, cases_lt, cases_order, false_from_ne_true, not-true, not-false, not_from_false}
-use Rattle.dns_denial.specs.Nsecs.{AreSorted, NsecState, is_before, is_up_to}
+use Rattle.dns_denial.specs.Nsecs.{AreSorted, IsCountUpTo, NsecState, is_before, is_up_to}
 use Rattle.dns_denial.specs.Denials.{AllBehind, IsLast}
 use Rattle.dns_denial.proofs.OrderLaws.{before_before, before_upto, upto_trans}
 use Rattle.dns_denial.proofs.PlaceLaws.{same_default}
@@ -19,6 +20,29 @@ module _ (ns : List NsecState) (name : List (List ℕ)) where
           not_from_false (is_before name (slice_index_or ns i d).owner)
           (upto_trans (slice_index_or ns i d).owner (slice_index_or ns j d).owner name (before_upto (slice_index_or ns i d).owner (slice_index_or ns j d).owner (sorted i j d m k)) (not-true (is_before name (slice_index_or ns j d).owner) h))
       by_place (inr m) = let e : j ≡ i = omega arith in ap (λ (q : ℕ). is_up_to name (slice_index_or ns q d)) (sym e) ∙ h
+
+  -- what is at a place of a list is what is read there
+  got_there : (xs : List NsecState) (i : ℕ) (d : NsecState) (b : Bool) → i < length xs → option_map_or (is_up_to name) (slice_get xs i) false ≡ b → is_up_to name (slice_index_or xs i d) ≡ b
+  got_there [] i d b l e = absurd (omega (arith, l))
+  got_there (x ∷ xs) zero d b l e = e
+  got_there (x ∷ xs) (suc i) d b l e = got_there xs i d b (omega (arith, l)) e
+
+  got_within : (xs : List NsecState) (i : ℕ) → option_map_or (is_up_to name) (slice_get xs i) false ≡ true → i < length xs
+  got_within [] i e = absurd (cc)
+  got_within (x ∷ xs) zero e = omega arith
+  got_within (x ∷ xs) (suc i) e = let l = got_within xs i e in omega (arith, l)
+
+  -- none after one that is after the name isn't after it
+  not_behind : AreSorted ns → (count : ℕ) → option_map_or (is_up_to name) (slice_get ns count) false ≡ false → (k : ℕ) (d : NsecState) → count ≤ k → k < length ns → is_up_to name (slice_index_or ns k d) ≡ false
+  not_behind w count e k d l h =
+      false_from_ne_true (is_up_to name (slice_index_or ns k d)) (λ t. true≢false (sym (partitioned w count k d l h t) ∙ got_there ns count d false (omega (arith, l, h)) e))
+
+  pub point_at_first : AreSorted ns → (count : ℕ) → option_map_or (is_up_to name) (slice_get ns count) false ≡ false → count ≡ 0 → IsCountUpTo ns name count
+  point_at_first w count e z = (λ k d l h. absurd (omega (arith, h, z)), not_behind w count e)
+
+  pub point_at : AreSorted ns → (count : ℕ) → option_map_or (is_up_to name) (slice_get ns count) false ≡ false → option_map_or (is_up_to name) (slice_get ns (count - 1)) false ≡ true → IsCountUpTo ns name count
+  point_at w count e f =
+      (λ k d l h. partitioned w k (count - 1) d (omega (arith, h)) (got_within ns (count - 1) f) (got_there ns (count - 1) d true (got_within ns (count - 1) f) f), not_behind w count e)
 
   pub all_behind : (count : ℕ) → count ≡ 0 → IsPartitionPoint (λ (n : NsecState). is_up_to name n ≡ true) (λ (n : NsecState). is_up_to name n ≡ false) ns count → AllBehind ns name
   all_behind count e p m c =

@@ -10,6 +10,7 @@ ghost use Rattle.dns_denial.specs.Nsecs.{AreSorted};
 use crate::chain_error::ChainError;
 use crate::check::checked;
 use crate::encloser::wildcard;
+use crate::guide::Guide;
 use crate::laws::{
     ds_is_proved_absent, expansions_are_proved, insecure_delegations_are_proved,
     name_errors_are_proved, no_data_is_proved, wildcard_no_data_is_proved,
@@ -25,6 +26,7 @@ use std::marker::Model;
 #[derive(Drop)]
 pub struct Chain {
     nsecs: Vec<Nsec>,
+    guide: Guide,
 }
 
 impl Model for Chain {
@@ -53,7 +55,8 @@ impl Chain {
         ensures { MatchOption result (AreSorted nsecs.items → ⊥) (λ c. c ≡ nsecs.items) }
     {
         if are_sorted(nsecs.as_slice()) {
-            return Some(Chain { nsecs });
+            let guide = Guide::of(*nsecs.allocator(), nsecs.as_slice());
+            return Some(Chain { nsecs, guide });
         }
         None
     }
@@ -72,7 +75,7 @@ impl Chain {
         ensures { MatchResult result (λ _. IsChained zone.now self.now) (λ e. Breaks zone.now self.now e) }
     {
         let nsecs = self.nsecs();
-        checked(zone, alloc, nsecs)
+        checked(zone, alloc, nsecs, &self.guide)
     }
 
     /// The NSEC that denies a type at a name that exists; that denies a name, if a wildcard stands for it; or that says of a
@@ -96,7 +99,7 @@ impl Chain {
         ensures { IfOk result (IsLastOf self.now name.now) }
     {
         let nsecs = self.nsecs();
-        last_of(nsecs, alloc, name)
+        last_of(nsecs, &self.guide, alloc, name)
     }
 
     /// The NSECs that deny a name and the wildcard that could stand for it, or the name and a type of that wildcard. None only

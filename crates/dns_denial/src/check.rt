@@ -8,6 +8,7 @@ ghost use Rattle.dns_denial.specs.Chains.{IsChained, has_type, is_deniable, must
 ghost use Rattle.dns_denial.specs.Checks.{AreLinked, Breaks, IsUnlinked, StandsAt, is_there, is_unfounded, is_unlisted, lists_record, owner_behind};
 
 use crate::chain_error::ChainError;
+use crate::guide::Guide;
 use crate::nsec::Nsec;
 use crate::search::last_of;
 use crate::standing::{Standing, standing_behind, standing_of};
@@ -40,6 +41,7 @@ fn is_unlisted(
     zone: &ZoneTree,
     alloc: Global,
     nsecs: &[Nsec],
+    guide: &Guide,
     resource: &Record,
     standing: &Standing<'_>,
 ) -> Result<bool, OutOfMemory>
@@ -50,7 +52,7 @@ fn is_unlisted(
     if !must_have(zone, &resource.owner, standing) {
         return Ok(false);
     }
-    match last_of(nsecs, alloc, &resource.owner.for_ref())? {
+    match last_of(nsecs, guide, alloc, &resource.owner.for_ref())? {
         Some(nsec) => Ok(!lists_record(zone, resource, standing, nsec)),
         None => Ok(true),
     }
@@ -61,6 +63,7 @@ fn first_unlisted(
     zone: &ZoneTree,
     alloc: Global,
     nsecs: &[Nsec],
+    guide: &Guide,
     records: &[Record],
 ) -> Result<Option<usize>, OutOfMemory>
     requires zone { tree_error zone.now.apex zone.now.records ≡ None }
@@ -72,7 +75,7 @@ fn first_unlisted(
     'each: for (index, resource) in records.iter().enumerate() {
         standing = standing_behind(zone, alloc, owner, standing, &resource.owner)?;
         owner = &resource.owner;
-        if is_unlisted(zone, alloc, nsecs, resource, &standing)? {
+        if is_unlisted(zone, alloc, nsecs, guide, resource, &standing)? {
             return Ok(Some(index));
         }
     }
@@ -167,12 +170,17 @@ fn first_unlinked(apex: &Name, nsecs: &[Nsec]) -> Option<usize>
 }
 
 /// Decides whether the chain of a zone is whole.
-pub(crate) fn checked(zone: &ZoneTree, alloc: Global, nsecs: &[Nsec]) -> Result<(), ChainError>
+pub(crate) fn checked(
+    zone: &ZoneTree,
+    alloc: Global,
+    nsecs: &[Nsec],
+    guide: &Guide,
+) -> Result<(), ChainError>
     requires zone { tree_error zone.now.apex zone.now.records ≡ None }
     requires sorted { AreSorted nsecs.now }
     ensures { MatchResult result (λ _. IsChained zone.now nsecs.now) (λ e. Breaks zone.now nsecs.now e) }
 {
-    if let Some(index) = first_unlisted(zone, alloc, nsecs, zone.records())? {
+    if let Some(index) = first_unlisted(zone, alloc, nsecs, guide, zone.records())? {
         return Err(ChainError::Unlisted(index));
     }
     if let Some(index) = first_unfounded(zone, alloc, nsecs)? {

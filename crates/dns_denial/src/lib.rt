@@ -46,6 +46,7 @@ mod chain;
 mod chain_error;
 mod check;
 mod encloser;
+mod guide;
 mod hash;
 mod hashed_denial;
 mod laws;

@@ -74,6 +74,13 @@ impl Nsec {
         self.types.as_slice().iter().any(|listed| rtype == *listed)
     }
 
+    /// The key of its owner.
+    pub(crate) fn key(&self) -> &[u8]
+        ensures { result.now ≡ canonical_key self.now.owner }
+    {
+        self.key.as_slice()
+    }
+
     /// Whether its owner is before another's.
     pub(crate) fn is_before(&self, other: &Nsec) -> bool
         ensures { result ≡ is_before self.now.owner other.now.owner }

@@ -1,11 +1,12 @@
 -- Keys compare as names do.
-use Rattle.std.proofs.Common.{◌≡◌, ℕ, ◌≤◌, ◌<◌, Bool, List, [], ◌∷◌, ◌++◌, refl, ap, sym, ◌∙◌, arith, inl, inr, append_assoc, append-nil, map, reverse}
+use Rattle.std.proofs.Common.{◌≡◌, ℕ, ◌≤◌, ◌<◌, ◌+◌, Bool, false, List, [], ◌∷◌, ◌++◌, refl, ap, sym, ◌∙◌, arith, inl, inr, append_assoc, append-nil, map, reverse}
 use Rattle.std.specs.Prelude.{◌⊎◌, nat_lt, if◌then◌else◌}
 use Rattle.std.specs.Cmp.Lexicographic.{slice_cmp}
+use Rattle.std.specs.List.{list_any}
 use Rattle.std.specs.Ordering.{nat_cmp, ordering_then}
 use Rattle.std.specs.declared.cmp.Ordering.{Ordering}
 use Rattle.std.specs.declared.cmp.Ordering.TheVariants.{Less, Equal, Greater}
-use Rattle.std.proofs.lemmas.Bool.{cases_lt, le-ltb}
+use Rattle.std.proofs.lemmas.Bool.{cases_lt, cond_both, le-ltb, ltb-false, or_parts}
 use Rattle.std.proofs.lemmas.Bool.Decides.{nat_tests}
 use Rattle.std.specs.Char.{to_ascii_lowercase}
 use Rattle.std.proofs.lemmas.List.{map-append, reverse-append}
@@ -130,20 +131,35 @@ unfolding canonical_key
 keys_begin_alike below above =
     ap labels_key (ap reverse (map-append (map to_ascii_lowercase) below above) ∙ reverse-append (folded below) (folded above)) ∙ labels_key_append (from_last above) (from_last below)
 
--- ---- how a key is made, from its end
+-- ---- how a key is made
 
-pub label_step : (x : ℕ) (l : List ℕ) → reverse (label_key (x ∷ l)) ≡ reverse (label_key l) ++ reverse (octet_key x)
-label_step x l = reverse-append (octet_key x) (label_key l)
-
-pub labels_step : (l : List ℕ) (ls : List (List ℕ)) → reverse (labels_key (from_last (l ∷ ls))) ≡ reverse (label_key (map to_ascii_lowercase l)) ++ reverse (labels_key (from_last ls))
-labels_step l ls =
+-- the last labels come first
+labels_behind : (l : List ℕ) (ls : List (List ℕ)) → labels_key (from_last (l ∷ ls)) ≡ labels_key (from_last ls) ++ label_key (map to_ascii_lowercase l)
+labels_behind l ls =
     let x = map to_ascii_lowercase l in
-    let e : from_last (l ∷ ls) ≡ from_last ls ++ (x ∷ []) = reverse-append (x ∷ []) (folded ls) in
-    ap (λ (k : List (List ℕ)). reverse (labels_key k)) e
-    ∙ (ap reverse (labels_key_append (from_last ls) (x ∷ []) ∙ ap (λ (k : List ℕ). labels_key (from_last ls) ++ k) (append-nil (label_key x))) ∙ reverse-append (labels_key (from_last ls)) (label_key x))
+    ap labels_key (reverse-append (x ∷ []) (folded ls))
+    ∙ (labels_key_append (from_last ls) (x ∷ []) ∙ ap (λ (k : List ℕ). labels_key (from_last ls) ++ k) (append-nil (label_key x)))
 
-pub key_onward : (o n l : List ℕ) (left next : List (List ℕ)) (all : List ℕ) → left ≡ l ∷ next → n ≡ o ++ reverse (label_key (map to_ascii_lowercase l)) → o ++ reverse (labels_key (from_last left)) ≡ all → n ++ reverse (labels_key (from_last next)) ≡ all
-key_onward o n l left next all e f i =
-    ap (λ (k : List ℕ). k ++ reverse (labels_key (from_last next))) f
-    ∙ (append_assoc o (reverse (label_key (map to_ascii_lowercase l))) (reverse (labels_key (from_last next)))
-    ∙ (ap (λ (k : List ℕ). o ++ k) (sym (ap (λ (y : List (List ℕ)). reverse (labels_key (from_last y))) e ∙ labels_step l next)) ∙ i))
+pub keys_pushed : (o v w l : List ℕ) (left next : List (List ℕ)) → left ≡ l ∷ next → v ≡ o ++ labels_key (from_last next) → w ≡ v ++ label_key (map to_ascii_lowercase l) → w ≡ o ++ labels_key (from_last left)
+keys_pushed o v w l left next e f g =
+    g
+    ∙ (ap (λ (k : List ℕ). k ++ label_key (map to_ascii_lowercase l)) f
+    ∙ (append_assoc o (labels_key (from_last next)) (label_key (map to_ascii_lowercase l))
+    ∙ ap (λ (k : List ℕ). o ++ k) (sym (ap (λ (y : List (List ℕ)). labels_key (from_last y)) e ∙ labels_behind l next))))
+
+-- an octet in lower case is no less
+lower_more : (x : ℕ) → 2 ≤ x → 2 ≤ to_ascii_lowercase x
+lower_more x h = cond_both (nat_lt x 65) x (if nat_lt x 91 then x + 32 else x) (λ y. 2 ≤ y) (λ e. h) (λ e. cond_both (nat_lt x 91) (x + 32) x (λ y. 2 ≤ y) (λ f. omega (arith, h)) (λ f. h))
+
+-- a label whose octets are each written as one is its own key
+plain_key : (l : List ℕ) → list_any (λ x. nat_lt x 2) l ≡ false → label_key (map to_ascii_lowercase l) ≡ map to_ascii_lowercase l ++ 0 ∷ []
+plain_key [] h = refl
+plain_key (x ∷ l) h =
+    let p = or_parts (nat_lt x 2) (list_any (λ y. nat_lt y 2) l) h in
+    λ i. key_more (to_ascii_lowercase x) (lower_more x (ltb-false x 2 p.0)) i ++ plain_key l p.1 i
+
+pub plain_pushed : (o v w l : List ℕ) → list_any (λ x. nat_lt x 2) l ≡ false → v ≡ o ++ map to_ascii_lowercase l → w ≡ v ++ 0 ∷ [] → w ≡ o ++ label_key (map to_ascii_lowercase l)
+plain_pushed o v w l h e f =
+    f
+    ∙ (ap (λ (k : List ℕ). k ++ 0 ∷ []) e
+    ∙ (append_assoc o (map to_ascii_lowercase l) (0 ∷ []) ∙ ap (λ (k : List ℕ). o ++ k) (sym (plain_key l h))))

@@ -1,13 +1,14 @@
 -- The search for a key among nodes in order: the first that doesn't come before it has what is kept of it.
-use Rattle.std.proofs.Common.{◌≡◌, ℕ, zero, suc, ◌≤◌, ◌<◌, Bool, true, false, List, [], ◌∷◌, ◌++◌, length, refl, ap, sym, subst, ◌∙◌, arith, append-nil}
+use Rattle.std.proofs.Common.{◌≡◌, ℕ, zero, suc, ◌≤◌, ◌<◌, ◌-◌, Bool, true, false, List, [], ◌∷◌, ◌++◌, length, refl, ap, sym, subst, ◌∙◌, arith, append-nil}
 use Rattle.std.specs.Prelude.{◌||◌, if◌then◌else◌, is_some, slice_index_or, Option, Some, None}
 use Rattle.std.specs.Cmp.Lexicographic.{bytes_decides}
 use Rattle.std.specs.List.{AllByRecursion, list_any, slice_get}
 use Rattle.std.specs.List.Sorted.{IsPartitionPoint, IsPartitionedBy}
+use Rattle.std.specs.Option.{option_map_or}
 use Rattle.std.specs.Str.{bytes_eq}
 use Rattle.std.proofs.lemmas.Bool.{true≢false, false_from_ne_true}
 use Rattle.dns_zone_tree.specs.Kinds.{places_in, places_of}
-use Rattle.dns_zone_tree.specs.Nodes.{AreOrdered, begins_node, is_before, is_below, key_of, kinds_among, node_kinds, noded_at}
+use Rattle.dns_zone_tree.specs.Nodes.{AreOrdered, IsCountBefore, begins_node, is_before, is_below, key_of, kinds_among, node_kinds, noded_at}
 use Rattle.dns_zone_tree.specs.declared.kinds.Kinds.{Kinds}
 use Rattle.dns_zone_tree.specs.declared.kinds.TypedPlace.{TypedPlace}
 use Rattle.dns_zone_tree.specs.declared.names.Node.{Node}
@@ -38,6 +39,34 @@ module _ (o p : List ℕ) where
   partitioned (n ∷ ns) w zero (suc j) d l k h = passed_on n ns j d w.0 (omega (arith, k)) h
   partitioned (n ∷ ns) w (suc i) zero d l k h = absurd (omega (arith, l))
   partitioned (n ∷ ns) w (suc i) (suc j) d l k h = partitioned ns w.1 i j d (omega (arith, l)) (omega (arith, k)) h
+
+-- ---- a place between nodes that come before a key and others
+
+-- what is at a place of a list is what is read there
+got_there : {A : Type 0} (p : A → Bool) (xs : List A) (i : ℕ) (d : A) (b : Bool) → i < length xs → option_map_or p (slice_get xs i) false ≡ b → p (slice_index_or xs i d) ≡ b
+got_there p [] i d b l e = absurd (omega (arith, l))
+got_there p (x ∷ xs) zero d b l e = e
+got_there p (x ∷ xs) (suc i) d b l e = got_there p xs i d b (omega (arith, l)) e
+
+got_within : {A : Type 0} (p : A → Bool) (xs : List A) (i : ℕ) → option_map_or p (slice_get xs i) false ≡ true → i < length xs
+got_within p [] i e = absurd (cc)
+got_within p (x ∷ xs) zero e = omega arith
+got_within p (x ∷ xs) (suc i) e = let l = got_within p xs i e in omega (arith, l)
+
+module _ (o p : List ℕ) (ns : List Node) (w : AreOrdered o ns) where
+  -- none after a node that doesn't come before the key does
+  not_behind : (count : ℕ) → option_map_or (is_before o p) (slice_get ns count) false ≡ false → (k : ℕ) (d : Node) → count ≤ k → k < length ns → is_before o p (slice_index_or ns k d) ≡ false
+  not_behind count e k d l h =
+      false_from_ne_true (is_before o p (slice_index_or ns k d)) (λ t. true≢false (sym (partitioned o p ns w count k d l h t) ∙ got_there (is_before o p) ns count d false (omega (arith, l, h)) e))
+
+  pub point_at_first : (count : ℕ) → option_map_or (is_before o p) (slice_get ns count) false ≡ false → count ≡ 0 → IsCountBefore o p ns count
+  point_at_first count e z = (λ k d l h. absurd (omega (arith, h, z)), not_behind count e)
+
+  pub point_at : (count : ℕ) → option_map_or (is_before o p) (slice_get ns count) false ≡ false → option_map_or (is_before o p) (slice_get ns (count - 1)) false ≡ true → IsCountBefore o p ns count
+  point_at count e f = (
+    λ k d l h. partitioned o p ns w k (count - 1) d (omega (arith, h)) (got_within (is_before o p) ns (count - 1) f) (got_there (is_before o p) ns (count - 1) d true (got_within (is_before o p) ns (count - 1) f) f),
+    not_behind count e,
+  )
 
 -- ---- what is found
 

@@ -1,8 +1,9 @@
 -- The index of a zone: the keys of the names that own records, one after another, and a node for each in the order of the keys.
 -- They compare as names do in the canonical order (RFC 4034, section 6.1). A name above one of them needs no node: its key begins
 -- theirs.
-use Rattle.std.specs.Prelude.{ℕ, ◌≡◌, Bool, true, ◌&&◌, not, List, [], ◌∷◌, ◌++◌, length, take, map, nat_eq, nat_le, if◌then◌else◌, Option, Some, None}
+use Rattle.std.specs.Prelude.{ℕ, ◌≡◌, Bool, true, false, ◌&&◌, not, List, [], ◌∷◌, ◌++◌, length, take, map, nat_eq, nat_le, if◌then◌else◌, Option, Some, None}
 use Rattle.std.specs.List.{AllByRecursion, filter, list_any, slice_range}
+use Rattle.std.specs.List.Sorted.{IsPartitionPoint}
 use Rattle.std.specs.Ordering.{is_lt, nat_cmp}
 use Rattle.std.specs.Cmp.Lexicographic.{slice_cmp}
 use Rattle.std.specs.Str.{bytes_eq}
@@ -60,6 +61,10 @@ begins_node o p n = begins p (key_of o n.span)
 abbrev pub AreOrdered : List ℕ → List Node → Type 0
 AreOrdered o [] = Unit {0}
 AreOrdered o (n ∷ ns) = AllByRecursion (λ (m : Node). is_before o (key_of o m.span) n ≡ true) ns × AreOrdered o ns
+
+-- how many nodes come before a key; they are the first ones
+abbrev pub IsCountBefore : List ℕ → List ℕ → List Node → ℕ → Type 0
+IsCountBefore o p ns count = IsPartitionPoint (λ (n : Node). is_before o p n ≡ true) (λ (n : Node). is_before o p n ≡ false) ns count
 
 -- whether one of some octets is `*`
 abbrev pub has_star : List ℕ → Bool

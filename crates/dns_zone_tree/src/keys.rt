@@ -11,6 +11,7 @@ ghost use Rattle.dns_zone_tree.specs.Nodes.{IsJoined, is_last, is_lower, key_of}
 ghost use Rattle.dns_zone_tree.specs.TreeErrors.{Makes, size_error, size_limit};
 
 use crate::error::TreeError;
+use crate::guide::Guide;
 use crate::hints::Hints;
 use crate::kinds::{Kinds, TypedPlace};
 use crate::names::{Keyed, Names, Node, Span, has_star, key_of};
@@ -182,6 +183,7 @@ fn indexed(alloc: Global, keys: Keys) -> Result<Names, OutOfMemory>
         nodes,
         none,
         hints: Hints::new(alloc),
+        guide: Guide::new(alloc),
         stars,
     })
 }

@@ -12,7 +12,8 @@
 //! `Zone` of dns_zone is a single service over such a list; a `ZoneTree` is what the reply of a name server is made
 //! from, in dns_name_server. Its index has the keys of all owners after one another, and a node of some 40 octets for
 //! each name that owns records. A name above one exists without a node: its key begins the next one. A table of 8 octets for each
-//! node says where a key is looked for first. A name that owns records is mostly found by it, without a search.
+//! node says where a key is looked for first. A name that owns records is mostly found by it, without a search. A search begins
+//! where a number of each eighth key says.
 //!
 //! ```text
 //! apex -> label -> label -> name          Node: its records | Missing: below its closest encloser
@@ -43,6 +44,7 @@
 mod check;
 mod error;
 mod glue;
+mod guide;
 mod hints;
 mod keys;
 mod kinds;

@@ -1,13 +1,13 @@
 //! The index of a zone: the names that own records, in the canonical order.
 
-ghost use Rattle.std.specs.Prelude.{◌≡◌, ℕ, List, true, false, IfSome, Some, None};
+ghost use Rattle.std.specs.Prelude.{◌≡◌, ℕ, List, true, false, IfSome, IsTrue, Some, None};
 ghost use Rattle.std.specs.List.{slice_get};
-ghost use Rattle.std.specs.List.Sorted.{IsPartitionPoint};
-ghost use Rattle.std.specs.Option.{option_copied};
+ghost use Rattle.std.specs.Option.{option_copied, option_map_or};
 ghost use Rattle.std.specs.Str.{bytes_eq};
-ghost use Rattle.dns_zone_tree.specs.Nodes.{AreOrdered, has_star, is_before, key_of, kinds_by, kinds_under};
+ghost use Rattle.dns_zone_tree.specs.Nodes.{AreOrdered, IsCountBefore, has_star, is_before, key_of, kinds_by, kinds_under};
 
-use crate::hints::{Hints, PROBES};
+use crate::guide::Guide;
+use crate::hints::{Hint, Hints, PROBES};
 use crate::kinds::{Kinds, TypedPlace};
 use dns_name::OutOfMemory;
 use std::alloc::Global;
@@ -41,6 +41,7 @@ pub(crate) struct Names {
     pub(crate) nodes: Vec<Node>,
     pub(crate) none: Kinds,
     pub(crate) hints: Hints,
+    pub(crate) guide: Guide,
     pub(crate) stars: bool,
 }
 
@@ -72,18 +73,10 @@ pub(crate) fn has_star(octets: &[u8]) -> bool
 }
 
 /// Whether a node comes before a key.
-fn is_before(octets: &[u8], node: &Node, key: &[u8]) -> bool
+pub(crate) fn is_before(octets: &[u8], node: &Node, key: &[u8]) -> bool
     ensures { result ≡ is_before octets.now key.now node.now }
 {
     key_of(octets, node.span).cmp(key).is_lt()
-}
-
-/// How many nodes come before a key.
-fn count_before(octets: &[u8], nodes: &[Node], key: &[u8]) -> usize
-    requires { AreOrdered octets.now nodes.now }
-    ensures { IsPartitionPoint (λ n. is_before octets.now key.now n ≡ true) (λ n. is_before octets.now key.now n ≡ false) nodes.now result }
-{
-    nodes.partition_point(|node| is_before(octets, node, key))
 }
 
 /// The node at a place, if there is one.
@@ -91,6 +84,43 @@ fn node_at(nodes: &[Node], place: usize) -> Option<&Node>
     ensures { option_copied result ≡ slice_get nodes.now place }
 {
     nodes.get(place)
+}
+
+/// Whether the node at a place is there and comes before a key.
+fn is_passed(octets: &[u8], nodes: &[Node], key: &[u8], place: usize) -> bool
+    ensures { result ≡ option_map_or (is_before octets.now key.now) (slice_get nodes.now place) false }
+{
+    match node_at(nodes, place) {
+        Some(node) => is_before(octets, node, key),
+        None => false,
+    }
+}
+
+/// Whether as many nodes come before a key.
+#[tactic(auto, using(crate::proofs::SearchLaws::point_at, crate::proofs::SearchLaws::point_at_first))]
+fn is_count(octets: &[u8], nodes: &[Node], key: &[u8], count: usize) -> bool
+    requires { AreOrdered octets.now nodes.now }
+    ensures { IsTrue result → IsCountBefore octets.now key.now nodes.now count }
+{
+    if is_passed(octets, nodes, key, count) {
+        return false;
+    }
+    if count == 0 {
+        return true;
+    }
+    is_passed(octets, nodes, key, count - 1)
+}
+
+/// How many nodes come before a key. What a guide says is tried first.
+fn count_before(octets: &[u8], nodes: &[Node], guide: &Guide, key: &[u8]) -> usize
+    requires { AreOrdered octets.now nodes.now }
+    ensures { IsCountBefore octets.now key.now nodes.now result }
+{
+    let guessed = guide.count_before(octets, nodes, key);
+    if is_count(octets, nodes, key, guessed) {
+        return guessed;
+    }
+    nodes.partition_point(|node| is_before(octets, node, key))
 }
 
 /// What is kept of a key: what is there if a node's key is it, and nothing if that only begins with it, as the key of a name
@@ -129,11 +159,12 @@ impl Names {
         self.stars
     }
 
-    /// Makes the hints.
+    /// Makes the hints and the guide.
     pub(crate) fn hint(&mut self, alloc: Global) -> Result<(), OutOfMemory>
         ensures { self.new ≡ self.old }
     {
         self.hints = Hints::of(alloc, self.octets.as_slice(), self.nodes.as_slice())?;
+        self.guide = Guide::of(alloc, self.octets.as_slice(), self.nodes.as_slice())?;
         Ok(())
     }
 
@@ -156,13 +187,16 @@ impl Names {
     fn hinted(&self, key: &[u8]) -> Option<&Kinds>
         ensures { IfSome result (λ m. Some m.now ≡ kinds_under self.now key.now) }
     {
-        let start = self.hints.start(key);
+        let look = self.hints.look(key);
         'probes: for probe in 0..PROBES {
-            let Some(place) = self.hints.get(start.saturating_add(probe)) else {
-                return None;
-            };
-            if let Some(kinds) = self.kinds_if(place, key) {
-                return Some(kinds);
+            match self.hints.get(look, probe) {
+                Hint::None => return None,
+                Hint::Other => {}
+                Hint::Node(place) => {
+                    if let Some(kinds) = self.kinds_if(place, key) {
+                        return Some(kinds);
+                    }
+                }
             }
         }
         None
@@ -174,7 +208,7 @@ impl Names {
     {
         let octets = self.octets.as_slice();
         let nodes = self.nodes.as_slice();
-        match node_at(nodes, count_before(octets, nodes, key)) {
+        match node_at(nodes, count_before(octets, nodes, &self.guide, key)) {
             Some(node) => kinds_by(key_of(octets, node.span), key, &node.kinds, &self.none),
             None => None,
         }
