@@ -18,6 +18,7 @@ use Rattle.dns_zone.specs.Owned.{ZoneState}
 use Rattle.dns_authority.specs.Authorities.{AsksTransfer, AuthorityState, coded, may_transfer}
 use Rattle.dns_zone_tree.specs.Long.{is_long}
 use Rattle.dns_authority.specs.SentZones.{TransfersAreTheRecords}
+use Rattle.dns_authority.specs.ServedZones.{sent_of}
 use Rattle.dns_authority.proofs.AnswerLaws.{transfers_are_answered}
 use Rattle.dns_authority.proofs.AskedLaws.{sole_asked}
 
@@ -68,7 +69,7 @@ sent_small z h =
 pub transfers_are_the_records : {Meta : Type 0} → TransfersAreTheRecords Meta
 transfers_are_the_records a r q v n h m s few =
     let o = r.octets in
-    let z = v.zone in
+    let z = sent_of v.zone v.signing in
     let d = sole_asked o q h.question in
     let e : joined_answers (transfer z o) n ≡ transfer_records z = transfers_are_whole z o n (small_transfers_fit z o q d.0 d.1 (sent_small z s)) few in
     ap (λ (x : ℕ → Answer). joined_answers x n) (transfers_are_answered a r q v h)

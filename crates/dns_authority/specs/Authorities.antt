@@ -14,17 +14,16 @@ use Rattle.dns_service.specs.Transport.{is_stream}
 use Rattle.dns_route.specs.Routes.{ends_name}
 use Rattle.dns_zone.specs.Owned.{ZoneState}
 use Rattle.dns_zone.specs.ZoneTurns.{zone_begun, zone_message}
-use Rattle.dns_denial.specs.Nsecs.{NsecState}
 use Rattle.dns_networks.specs.Networks.{is_in_any}
-use Rattle.dns_authority.specs.ServedZones.{nsecs_of, room_over, served_reply, tree_of}
+use Rattle.dns_authority.specs.ServedZones.{Signing, Bare, room_over, sent_of, served_reply, signing_of, tree_of}
 use Rattle.dns_networks.specs.declared.network.Network.{Network}
 use Rattle.dns_authority.specs.declared.zone_data.ZoneData.{ZoneData}
 use Rattle.dns_transfer.specs.Transfers.{bunched, message_item, transfer, transfer_records}
 
--- a zone, the NSECs of its chain where it is signed, and the networks that may transfer it
+-- a zone, how it is signed, and the networks that may transfer it
 pub record ServedState : Type 0 where
   pub zone : ZoneState
-  pub nsecs : Option (List NsecState)
+  pub signing : Signing
   pub allowed : List Network
 
 -- the bunches of a transfer, which are kept of a zone that may be transferred to some network
@@ -78,7 +77,7 @@ coded o rcode = message_item None (zone_begun o rcode false)
 
 -- the reply of a zone to a request's octets, with RRSIGs of additional records where its transport has room for them
 abbrev pub zone_item : {Meta : Type 0} → Req Meta → Question → ServedState → Item
-zone_item r q s = message_item None (zone_message r.octets (served_reply s.zone s.nsecs (room_over r.transport) r.octets q))
+zone_item r q s = message_item None (zone_message r.octets (served_reply s.zone s.signing (room_over r.transport) r.octets q))
 
 -- ---- transfers
 
@@ -99,7 +98,7 @@ transferred allowed r q z = if same_name q.qname z.apex && may_transfer allowed 
 -- by the zone that is asked
 abbrev pub by_zone : {Meta : Type 0} → Req Meta → Question → Option ServedState → ℕ → Answer
 by_zone r q None = once (coded r.octets 5)
-by_zone r q (Some s) = if asks_transfer q then transferred s.allowed r q s.zone else once (zone_item r q s)
+by_zone r q (Some s) = if asks_transfer q then transferred s.allowed r q (sent_of s.zone s.signing) else once (zone_item r q s)
 
 -- by the class
 abbrev pub by_class : {Meta : Type 0} → List ServedState → Req Meta → Question → ℕ → Answer
@@ -121,11 +120,11 @@ pub record AuthorityState : Type 0 where
 
 -- a zone that these networks may transfer is after the others
 abbrev pub and_zone : List Network → ZoneState → AuthorityState → AuthorityState
-and_zone allowed z a = record a { zones = a.zones ++ (record { zone = z; nsecs = None; allowed = allowed }) ∷ [] }
+and_zone allowed z a = record a { zones = a.zones ++ (record { zone = z; signing = Bare; allowed = allowed }) ∷ [] }
 
 -- and so is one that is signed or not
 abbrev pub and_data : List Network → ZoneData → AuthorityState → AuthorityState
-and_data allowed d a = record a { zones = a.zones ++ (record { zone = tree_of d; nsecs = nsecs_of d; allowed = allowed }) ∷ [] }
+and_data allowed d a = record a { zones = a.zones ++ (record { zone = tree_of d; signing = signing_of d; allowed = allowed }) ∷ [] }
 
 abbrev pub authority_answer : {Meta : Type 0} → AuthorityState → Req Meta → ℕ → Answer
 authority_answer a r = by_opcode a.zones r (header_of r.octets).opcode
@@ -144,4 +143,4 @@ pub record AsksTransfer {Meta : Type 0} (a : AuthorityState) (r : Req Meta) (q :
 -- is answered by the transfer if it is allowed, and else REFUSED
 abbrev pub TransfersAreAnswered : Type 0 → Type 0
 TransfersAreAnswered Meta = (a : AuthorityState) (r : Req Meta) (q : Question) (s : ServedState) → AsksTransfer a r q s
-    → authority_answer a r ≡ (if may_transfer s.allowed r then transfer s.zone r.octets else once (coded r.octets 5))
+    → authority_answer a r ≡ (if may_transfer s.allowed r then transfer (sent_of s.zone s.signing) r.octets else once (coded r.octets 5))

@@ -13,6 +13,7 @@ ghost use Rattle.dns_service.specs.Transport.{is_stream};
 ghost use Rattle.dns_route.specs.Routes.{ends_name};
 ghost use Rattle.dns_zone.specs.ZoneTurns.{zone_begun};
 ghost use Rattle.dns_authority.specs.Authorities.{and_data, and_zone, asked_zone, asks_transfer, authority_answer, by_class, by_question, by_zone, coded, longer, may_transfer, sole_question, transferred, zone_above, zone_for, zone_for_ds};
+ghost use Rattle.dns_authority.specs.ServedZones.{sent_of};
 
 use crate::stream::{AuthorityFuture, AuthorityStream};
 use crate::zone_data::ZoneData;
@@ -171,7 +172,7 @@ impl Authority {
         zone: &ServedZone,
     ) -> Result<AuthorityStream, OutOfMemory>
         ensures { IfOk result (λ s. ⟦<AuthorityStream as ReplyStream>⟧.answer s
-            ≡ transferred zone.now.allowed request.now question.now zone.now.zone) }
+            ≡ transferred zone.now.allowed request.now question.now (sent_of zone.now.zone zone.now.signing)) }
     {
         if zone.allows(request, question) {
             let transfer = zone.transfer(request)?;

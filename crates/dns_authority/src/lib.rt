@@ -3,13 +3,14 @@
 //! - `Authority` is a service with zones by their apex.
 //! - `add` adds a `ZoneTree` of dns_zone_tree, whose records each have room in a reply. It may be transferred to the
 //!   networks of `Authority::new`, or to those of its own that `add_for` takes. `add_data` adds a zone that
-//!   is signed or not: the replies of a `SignedZone` of dns_signed_zone to DO have RRSIGs and denials.
+//!   is signed or not (`ZoneData`): the replies of a `SignedZone` of dns_signed_zone and of a `HashedZone` of dns_hashed_zone to
+//!   DO have RRSIGs and denials.
 //! - `Network` is the addresses whose first bits are those of an address (dns_networks).
 //! - `AuthorityStream` and `AuthorityFuture` are its replies: one reply, or the replies of a transfer.
 //!
-//! The reply to a question is that of dns_name_server, from a signed zone that of dns_signed_reply. The replies of a transfer come
-//! from dns_transfer. A refusal is a reply with a response code. So the layers give it an OPT record and a cookie as they do any
-//! other.
+//! The reply to a question is that of dns_name_server, from a signed zone that of dns_signed_reply, from one that is signed with
+//! NSEC3 that of dns_hashed_reply. The replies of a transfer come from dns_transfer, with all records of the zone. A refusal is a
+//! reply with a response code. So the layers give it an OPT record and a cookie as they do any other.
 //!
 //! ```text
 //! question -> no zone, or another class than IN: REFUSED

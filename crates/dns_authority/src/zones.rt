@@ -5,7 +5,7 @@ ghost use Rattle.std.specs.Arc.{arc_value};
 ghost use Rattle.dns_name.specs.Canonical.{same_name};
 ghost use Rattle.dns_route.specs.Routes.{ends_name};
 ghost use Rattle.dns_authority.specs.Authorities.{kept_bunches, may_transfer, zone_item};
-ghost use Rattle.dns_authority.specs.ServedZones.{nsecs_of, tree_of};
+ghost use Rattle.dns_authority.specs.ServedZones.{sent_by, sent_of, signing_of, tree_of};
 ghost use Rattle.dns_transfer.specs.Transfers.{bunched, transfer, transfer_records};
 
 use crate::laws::same_names_are_folded;
@@ -15,7 +15,6 @@ use dns_networks::{Network, is_in_any};
 use dns_route::matches_are_suffixes;
 use dns_service::{OutOfMemory, ReplyStream, Request, ServiceResult};
 use dns_transfer::{Bunches, Transfer, message_item};
-use dns_zone_tree::ZoneTree;
 use std::alloc::Global;
 use std::marker::Model;
 use std::sync::Arc;
@@ -33,20 +32,20 @@ impl Model for ServedZone {
     ghost use Rattle.std.specs.Prelude.{◌≡◌, option_map};
     ghost use Rattle.std.specs.Arc.{arc_value};
     ghost use Rattle.dns_authority.specs.Authorities.{ServedState, kept_bunches};
-    ghost use Rattle.dns_authority.specs.ServedZones.{nsecs_of, tree_of};
+    ghost use Rattle.dns_authority.specs.ServedZones.{sent_by, signing_of, tree_of};
 
     ghost Value = { ServedState };
 
-    ghost view = { λ s. record { zone = tree_of s.zone; nsecs = nsecs_of s.zone; allowed = s.allowed.items } };
+    ghost view = { λ s. record { zone = tree_of s.zone; signing = signing_of s.zone; allowed = s.allowed.items } };
 
-    ghost invariant = { λ s. option_map arc_value s.bunches ≡ kept_bunches s.allowed.items (tree_of s.zone) };
+    ghost invariant = { λ s. option_map arc_value s.bunches ≡ kept_bunches s.allowed.items (sent_by s.zone) };
 }
 
 /// The bunches of a transfer of a zone.
-fn shared_bunches(alloc: Global, zone: &ZoneTree) -> Result<Arc<Bunches>, OutOfMemory>
-    ensures { IfOk result (λ b. arc_value b ≡ bunched (transfer_records zone.now)) }
+fn shared_bunches(alloc: Global, zone: &ZoneData) -> Result<Arc<Bunches>, OutOfMemory>
+    ensures { IfOk result (λ b. arc_value b ≡ bunched (transfer_records (sent_by zone.now))) }
 {
-    let bunches = Bunches::of(alloc, zone.records())?;
+    let bunches = zone.bunches(alloc)?;
     let shared = Arc::new(alloc, bunches)?;
     Ok(shared)
 }
@@ -54,10 +53,10 @@ fn shared_bunches(alloc: Global, zone: &ZoneTree) -> Result<Arc<Bunches>, OutOfM
 /// The bunches of a transfer of a zone that may be transferred to some network.
 fn kept_bunches(
     alloc: Global,
-    zone: &ZoneTree,
+    zone: &ZoneData,
     allowed: &[Network],
 ) -> Result<Option<Arc<Bunches>>, OutOfMemory>
-    ensures { IfOk result (λ b. option_map arc_value b ≡ kept_bunches allowed.now zone.now) }
+    ensures { IfOk result (λ b. option_map arc_value b ≡ kept_bunches allowed.now (sent_by zone.now)) }
 {
     match allowed.split_first() {
         Some(_) => {
@@ -75,9 +74,9 @@ impl ServedZone {
         zone: ZoneData,
         allowed: Vec<Network>,
     ) -> Result<ServedZone, OutOfMemory>
-        ensures { IfOk result (λ s. s ≡ record { zone = tree_of zone; nsecs = nsecs_of zone; allowed = allowed.items }) }
+        ensures { IfOk result (λ s. s ≡ record { zone = tree_of zone; signing = signing_of zone; allowed = allowed.items }) }
     {
-        let bunches = kept_bunches(alloc, zone.tree(), allowed.as_slice())?;
+        let bunches = kept_bunches(alloc, &zone, allowed.as_slice())?;
         Ok(ServedZone {
             zone,
             allowed,
@@ -148,7 +147,8 @@ impl ServedZone {
     /// Its transfer, for a request that may ask for it.
     pub(crate) fn transfer<Meta>(&self, request: &Request<Meta>) -> Result<Transfer, OutOfMemory>
         requires { may_transfer self.now.allowed request.now ≡ true }
-        ensures { IfOk result (λ t. ⟦<Transfer as ReplyStream>⟧.answer t ≡ transfer self.now.zone request.now.octets) }
+        ensures { IfOk result (λ t. ⟦<Transfer as ReplyStream>⟧.answer t
+            ≡ transfer (sent_of self.now.zone self.now.signing) request.now.octets) }
     {
         match &self.bunches {
             Some(bunches) => {

@@ -5,7 +5,7 @@ use Rattle.dns_message.specs.declared.record.Record.{Record}
 use Rattle.dns_authority.specs.declared.zone_data.ZoneData.{ZoneData}
 use Rattle.dns_zone_file.specs.ZoneFile.{zone_file}
 use Rattle.dns_generation.specs.declared.zone_text_error.ZoneTextError.{ZoneTextError}
-use Rattle.dns_generation.specs.declared.zone_text_error.ZoneTextError.TheVariants.{Line, NotSigned, NotZone, OutOfMemory as NoMemory}
+use Rattle.dns_generation.specs.declared.zone_text_error.ZoneTextError.TheVariants.{Line, NotHashed, NotSigned, NotZone, OutOfMemory as NoMemory}
 use Rattle.dns_generation.specs.Generations.{Denies, HasFault, IsWritten, IsZoneOf}
 
 pub writes : (apex : List (List ℕ)) (text : List ℕ) (copy : List (List ℕ)) (records : List Record) (r : Result ZoneData ZoneTextError) → copy ≡ apex → zone_file apex text ≡ Ok records → IfOk r (IsZoneOf (record { apex = copy; records = records })) → IfOk r (IsWritten apex text)
@@ -16,6 +16,7 @@ has_fault : (apex : List (List ℕ)) (text : List ℕ) (records : List Record) (
 has_fault apex text records (Line l r) f h = absurd h
 has_fault apex text records (NotZone e) f h = (records, f, h)
 has_fault apex text records (NotSigned e) f h = (records, f, h)
+has_fault apex text records (NotHashed e) f h = (records, f, h)
 has_fault apex text records NoMemory f h = tt
 
 pub faults : (apex : List (List ℕ)) (text : List ℕ) (copy : List (List ℕ)) (records : List Record) (r : Result ZoneData ZoneTextError) → copy ≡ apex → zone_file apex text ≡ Ok records → IfErr r (Denies (record { apex = copy; records = records })) → IfErr r (HasFault apex text)

@@ -1,1 +1,2 @@
+pub mod Signings
 pub mod Generations

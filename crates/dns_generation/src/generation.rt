@@ -6,6 +6,7 @@ ghost use Rattle.dns_authority.specs.ServedZones.{tree_of};
 ghost use Rattle.dns_secondary_service.specs.Withheld.{withholding};
 ghost use Rattle.dns_generation.specs.Generations.{AddsFile, HasFault, networks_or, summary_of, timers_among, with_withheld, with_zone};
 
+use crate::signing::{ZoneSigning, zone_signing};
 use crate::zone_text_error::ZoneTextError;
 use crate::zones::zone_of;
 use dns_authority::{Authority, Network, ZoneData};
@@ -24,6 +25,8 @@ pub struct ZoneSummary {
     pub timers: Option<SoaTimers>,
     /// How many records it has.
     pub records: usize,
+    /// How it is signed.
+    pub signing: ZoneSigning,
 }
 
 /// Zones that were read and judged, the authority over them, and zones that have no data.
@@ -61,13 +64,15 @@ fn timers_among(records: &[Record]) -> Option<SoaTimers>
     None
 }
 
-/// Records in few words.
-fn summary_of(records: &[Record]) -> ZoneSummary
-    ensures { result ≡ summary_of records.now }
+/// A zone in few words.
+fn summary_of(zone: &ZoneData) -> ZoneSummary
+    ensures { result ≡ summary_of zone.now }
 {
+    let tree = zone.tree();
     ZoneSummary {
-        timers: timers_among(records),
-        records: records.len(),
+        timers: timers_among(tree.records()),
+        records: zone.record_count(),
+        signing: zone_signing(zone),
     }
 }
 
@@ -151,7 +156,7 @@ impl Generation {
         summary: ZoneSummary,
     ) -> Result<(), OutOfMemory>
         requires apex { apex ≡ (tree_of zone).apex }
-        requires summary { summary ≡ summary_of (tree_of zone).records }
+        requires summary { summary ≡ summary_of zone }
         ensures ok { OnOk result (self.new ≡ with_zone (networks_or own self.old.authority.allowed) zone self.old) }
         ensures err { OnErr result (self.new ≡ self.old) }
     {
@@ -175,7 +180,7 @@ impl Generation {
     {
         let zone = zone_of(alloc, apex, text)?;
         let apex = apex.try_clone(alloc)?;
-        let summary = summary_of(zone.tree().records());
+        let summary = summary_of(&zone);
         self.put(alloc, apex, zone, own, summary)?;
         Ok(())
     }
@@ -216,6 +221,7 @@ impl Generation {
         let summary = ZoneSummary {
             timers: None,
             records: 0,
+            signing: ZoneSigning::Unsigned,
         };
         reserve_both(&mut self.withheld, &mut self.summaries)?;
         push_both(&mut self.withheld, &mut self.summaries, apex, summary);

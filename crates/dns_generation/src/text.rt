@@ -1,8 +1,10 @@
 //! Why a line of a zone file is refused, in words.
 
 use crate::zone_text_error::ZoneTextError;
-use dns_denial::ChainError;
+use dns_denial::{ChainError, HashingError};
+use dns_hashed_zone::{HashedChainError, HashedZoneError};
 use dns_nsec_data::NsecError;
+use dns_nsec3_data::Nsec3Error;
 use dns_signed_zone::SignedZoneError;
 use dns_zone_file::EntryReason;
 use dns_zone_tree::TreeError;
@@ -112,6 +114,69 @@ fn write_chain_cause<W: fmt::Write>(error: ChainError, f: &mut fmt::Formatter<W>
     }
 }
 
+/// Why NSEC3 records are no chain that is whole. Places in the chain are in the order of hashes, counted from 0. Records are counted
+/// without NSEC3 records and the RRSIGs that cover them.
+fn write_hashed_cause<W: fmt::Write>(
+    error: HashedZoneError,
+    f: &mut fmt::Formatter<W>,
+) -> fmt::Result {
+    match error {
+        HashedZoneError::Tree(error) => write_cause(error, f),
+        HashedZoneError::Nsec3(error) => write_nsec3_cause(error, f),
+        HashedZoneError::Chain(error) => write_hashed_chain_cause(error, f),
+    }
+}
+
+/// Why NSEC3 records are no chain.
+fn write_nsec3_cause<W: fmt::Write>(error: Nsec3Error, f: &mut fmt::Formatter<W>) -> fmt::Result {
+    match error {
+        Nsec3Error::Params(count) => write!(
+            f,
+            "no signed zone: {count} NSEC3PARAM records without flags are at its apex"
+        ),
+        Nsec3Error::Param => f.write_str(
+            "no signed zone: its NSEC3PARAM record has another algorithm than SHA-1, or data out of form",
+        ),
+        Nsec3Error::Hashing(HashingError::Iterations) => {
+            f.write_str("no signed zone: NSEC3 with more than 100 iterations")
+        }
+        Nsec3Error::Hashing(HashingError::Salt) => {
+            f.write_str("no signed zone: NSEC3 with a salt of more than 32 octets")
+        }
+        Nsec3Error::Malformed(place) => write!(
+            f,
+            "no signed zone: record {place} is no NSEC3 record of its NSEC3PARAM record"
+        ),
+        Nsec3Error::Twice => f.write_str("no signed zone: two NSEC3 records have one hash"),
+        Nsec3Error::OutOfMemory => f.write_str("out of memory"),
+    }
+}
+
+/// Why a chain of NSEC3s isn't whole.
+fn write_hashed_chain_cause<W: fmt::Write>(
+    error: HashedChainError,
+    f: &mut fmt::Formatter<W>,
+) -> fmt::Result {
+    match error {
+        HashedChainError::Unlisted(place) => write!(
+            f,
+            "no signed zone: a name of record {place} has no NSEC3 record that lists its types"
+        ),
+        HashedChainError::Unfounded(place) => {
+            write!(f, "no signed zone: NSEC3 {place} is no name's")
+        }
+        HashedChainError::Unlinked(place) => write!(
+            f,
+            "no signed zone: NSEC3 {place} doesn't lead to the next one"
+        ),
+        HashedChainError::Unowned(place) => write!(
+            f,
+            "no signed zone: NSEC3 record or RRSIG {place} has an owner without an NSEC3 record"
+        ),
+        HashedChainError::OutOfMemory => f.write_str("out of memory"),
+    }
+}
+
 /// The line and its reason; or what the records are no zone for.
 impl fmt::Display for ZoneTextError {
     fn fmt<W: fmt::Write>(&self, f: &mut fmt::Formatter<W>) -> fmt::Result {
@@ -122,6 +187,7 @@ impl fmt::Display for ZoneTextError {
             }
             ZoneTextError::NotZone(error) => write_cause(*error, f),
             ZoneTextError::NotSigned(error) => write_signed_cause(*error, f),
+            ZoneTextError::NotHashed(error) => write_hashed_cause(*error, f),
             ZoneTextError::OutOfMemory => f.write_str("out of memory"),
         }
     }

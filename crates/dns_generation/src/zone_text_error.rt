@@ -2,6 +2,7 @@
 
 ghost use Rattle.std.specs.Prelude.{◌≡◌};
 
+use dns_hashed_zone::HashedZoneError;
 use dns_name::OutOfMemory;
 use dns_signed_zone::SignedZoneError;
 use dns_zone_file::EntryReason;
@@ -17,6 +18,8 @@ pub enum ZoneTextError {
     NotZone(TreeError),
     /// It has NSEC records, and they are no chain that is whole.
     NotSigned(SignedZoneError),
+    /// It has NSEC3 or NSEC3PARAM records, and they are no chain that is whole.
+    NotHashed(HashedZoneError),
     OutOfMemory,
 }
 

@@ -9,16 +9,19 @@
 //!   says the owners of those that deny what is asked for: names and types.
 //! - nsec_rows: `secured` is as `signed`, with the NSECs that are among the records. `replied` makes such a zone and says its
 //!   replies to queries; each has the octets that there are room for. `types` reads type bit maps (RFC 4034, section 4.1.2).
+//! - hashed_rows: `hashed` is as `replied`, of a zone of NSEC3 records.
 //! - zones: what rows say of a zone; questions: what is asked of a signed one.
-//! - often, often_signed, asking: work that is done many times over, for `bench/`.
+//! - often, often_signed, often_hashed, asking: work that is done many times over, for `bench/`.
 //!
 //! The program prints each row that doesn't hold, and how many there were.
 #![tactic(auto)]
 
 mod asking;
 mod authorities;
+mod hashed_rows;
 mod nsec_rows;
 mod often;
+mod often_hashed;
 mod often_signed;
 mod queries;
 mod questions;

@@ -1,19 +1,21 @@
 //! A signed authority that is asked often in all four layers, which `bench/authority` times. Its zone has the names
-//! `x00000a.example.` and so on. Its NSEC records are a chain that is whole (RFC 4034, section 4). Its signatures are zeros, since
-//! nothing here verifies one.
+//! `x00000a.example.` and so on. Its NSEC records are a chain that is whole (RFC 4034, section 4), or its NSEC3 records (RFC 5155,
+//! section 7.1). Its signatures are zeros, since nothing here verifies one.
 
 ghost use Rattle.dns_zone.specs.Owned.{AreLawful};
 
 use crate::often::{APEX, OF_A_LETTER, SOA, asked_each, everywhere, in_layers, write_name};
+use crate::often_hashed::hashed_records;
 use crate::zones::push_octets;
 use dns_authority::{Authority, ZoneData};
 use dns_base::Record;
+use dns_hashed_zone::HashedZone;
 use dns_name::Name;
 use dns_signed_zone::SignedZone;
 use rows_table::{Calls, Row, RowError};
 
 /// The first name.
-const OWNER: [u8; 17] = *b"\x07x00000a\x07example\x00";
+pub(crate) const OWNER: [u8; 17] = *b"\x07x00000a\x07example\x00";
 
 /// The types of a name: A, RRSIG and NSEC (RFC 4034, section 4.1.2).
 const NAME_TYPES: [u8; 8] = *b"\x00\x06\x40\x00\x00\x00\x00\x03";
@@ -38,9 +40,9 @@ const LETTER: usize = 19;
 /// Where DO stands in the query (RFC 3225, section 3).
 const FLAGS: usize = 40;
 
-const A: u8 = 1;
+pub(crate) const A: u8 = 1;
 
-const SOA_TYPE: u8 = 6;
+pub(crate) const SOA_TYPE: u8 = 6;
 
 const RRSIG: u8 = 46;
 
@@ -52,7 +54,8 @@ pub(crate) struct OftenSigned;
 impl Calls for OftenSigned {
     fn answer(&self, call: &str, row: &mut Row<'_>) -> Result<(), RowError> {
         match call {
-            "often_signed" => summed(row),
+            "often_hashed" => summed(row, true),
+            "often_signed" => summed(row, false),
             _ => return Err(RowError::NoSuchCall),
         }
         Ok(())
@@ -75,8 +78,8 @@ fn query_of(word: &str) -> Option<[u8; 44]> {
     Some(query)
 }
 
-/// How many names the zone has, what is asked for and how often are the next words.
-fn summed(row: &mut Row<'_>) {
+/// How many names the zone has, what is asked for and how often are the next words. The names are hashed or not.
+fn summed(row: &mut Row<'_>, is_hashed: bool) {
     let names = row.number::<u64>();
     let query = query_of(row.word());
     let times = row.number::<u64>();
@@ -84,48 +87,65 @@ fn summed(row: &mut Row<'_>) {
         return row.fail(RowError::OutOfForm);
     }
     match query {
-        Some(query) => asked(row, query, names, times),
+        Some(query) => asked(row, is_hashed, query, names, times),
         None => row.fail(RowError::OutOfForm),
     }
 }
 
 /// Says the sum over that many questions, each for another name.
-fn asked(row: &mut Row<'_>, query: [u8; 44], names: u64, times: u64) {
+fn asked(row: &mut Row<'_>, is_hashed: bool, query: [u8; 44], names: u64, times: u64) {
     let mut authority = Authority::new(row.alloc(), everywhere(row));
-    add_zone(row, &mut authority, names);
+    add_zone(row, &mut authority, is_hashed, names);
     match in_layers(row, authority) {
         Some(service) => asked_each(row, &service, query, names, times),
         None => row.fail(RowError::OutOfMemory),
     }
 }
 
-/// Adds the signed zone of that many names.
-fn add_zone(row: &mut Row<'_>, authority: &mut Authority, names: u64) {
-    let apex = row.copied(&APEX);
-    match Name::from_octets(apex) {
-        Ok(apex) => {
-            let records = records_of(row, names);
-            match SignedZone::of(row.alloc(), apex, records) {
-                Ok(zone) => added(row, authority, zone),
-                Err(_) => row.fail(RowError::OutOfForm),
-            }
-        }
-        Err(_) => row.fail(RowError::OutOfForm),
+/// The signed zone of an apex and that many names.
+fn signed_zone(row: &mut Row<'_>, apex: Name, names: u64) -> Option<ZoneData> {
+    let records = records_of(row, names);
+    match SignedZone::of(row.alloc(), apex, records) {
+        Ok(zone) => Some(ZoneData::Signed(zone)),
+        Err(_) => None,
     }
 }
 
-fn added(row: &mut Row<'_>, authority: &mut Authority, zone: SignedZone) {
+/// Its zone with NSEC3.
+fn hashed_zone(row: &mut Row<'_>, apex: Name, names: u64) -> Option<ZoneData> {
+    let records = hashed_records(row, names);
+    match HashedZone::of(row.alloc(), apex, records) {
+        Ok(zone) => Some(ZoneData::Hashed(zone)),
+        Err(_) => None,
+    }
+}
+
+/// Adds the signed zone of that many names.
+fn add_zone(row: &mut Row<'_>, authority: &mut Authority, is_hashed: bool, names: u64) {
+    let apex = row.copied(&APEX);
+    let Ok(apex) = Name::from_octets(apex) else {
+        return row.fail(RowError::OutOfForm);
+    };
+    let zone = if is_hashed {
+        hashed_zone(row, apex, names)
+    } else {
+        signed_zone(row, apex, names)
+    };
+    match zone {
+        Some(zone) => added(row, authority, zone),
+        None => row.fail(RowError::OutOfForm),
+    }
+}
+
+fn added(row: &mut Row<'_>, authority: &mut Authority, zone: ZoneData) {
     let networks = everywhere(row);
-    if authority
-        .add_data(row.alloc(), ZoneData::Signed(zone), networks)
-        .is_err()
-    {
+    if authority.add_data(row.alloc(), zone, networks).is_err() {
         row.fail(RowError::OutOfForm);
     }
 }
 
 /// Appends a record of class IN with a TTL of 60 s, whose data are two parts.
-fn push_record(
+pub(crate) fn push_record(
     row: &mut Row<'_>,
     records: &mut Vec<Record>,
     owner: &[u8],
@@ -146,7 +166,12 @@ fn push_record(
 }
 
 /// Appends the RRSIG of a type of an owner.
-fn push_signature(row: &mut Row<'_>, records: &mut Vec<Record>, owner: &[u8], covered: u8)
+pub(crate) fn push_signature(
+    row: &mut Row<'_>,
+    records: &mut Vec<Record>,
+    owner: &[u8],
+    covered: u8,
+)
     requires { AreLawful records.old.items }
     ensures { AreLawful records.new.items }
 {

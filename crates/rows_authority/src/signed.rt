@@ -3,6 +3,7 @@
 ghost use Rattle.std.specs.Prelude.{◌≡◌, None};
 ghost use Rattle.dns_zone_tree.specs.TreeErrors.{tree_error};
 
+use crate::hashed_rows::hashed;
 use crate::nsec_rows::{replied, secured, types_of_row};
 use crate::questions::asked;
 use crate::zones::next_records;
@@ -18,7 +19,8 @@ pub(crate) struct Signed;
 impl Calls for Signed {
     fn answer(&self, call: &str, row: &mut Row<'_>) -> Result<(), RowError> {
         match call {
-            "nsec_hash" => hashed(row),
+            "hashed" => hashed(row),
+            "nsec_hash" => name_hashed(row),
             "replied" => replied(row),
             "secured" => secured(row),
             "signed" => zone_of_row(row),
@@ -30,7 +32,7 @@ impl Calls for Signed {
 }
 
 /// The hash of a name, with the salt and the iterations of the words before it.
-fn hashed(row: &mut Row<'_>) {
+fn name_hashed(row: &mut Row<'_>) {
     let salt = row.vector();
     let iterations = row.number();
     let name = row.name();

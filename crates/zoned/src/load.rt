@@ -11,11 +11,11 @@ use crate::configuration::load_config;
 use crate::keys::Keys;
 use anyhow::{Context, bail};
 use dns_config::{Config, ZoneEntry};
-use dns_generation::{Generation, ZoneSummary, networks};
+use dns_generation::{Generation, ZoneSigning, ZoneSummary, networks};
 use dns_notifier::serial_of;
 use dns_socket_addr::SocketAddrText;
 use dns_zone_copies::Secondary;
-use log::warn;
+use log::{info, warn};
 use std::alloc::{AllocError, Global};
 use std::fmt::Write;
 use std::{fs, slice};
@@ -116,6 +116,7 @@ fn summary_without(
         return ZoneSummary {
             timers: None,
             records: 0,
+            signing: ZoneSigning::Unsigned,
         };
     }
     *summary
@@ -212,16 +213,28 @@ fn push_zone(
     let name = &entry.name.name;
     let file = entry.file.as_str();
     let records = summary.records;
+    let signing = summary.signing;
     match serial_of(summary) {
         Some(serial) => writeln!(
             text,
-            "zone {name} serial {serial}, {records} records, of {file}"
+            "zone {name} serial {serial}, {records} records, {signing}, of {file}"
         ),
         None => writeln!(text, "zone {name} without data, of {file}"),
     }
 }
 
-/// A line for each zone: its name, its serial, how many records it has, and its file.
+/// Logs of each signed zone how it is signed.
+pub(crate) fn log_signed(rt: &HostRuntime, config: &Config, summaries: &[ZoneSummary]) {
+    for (entry, summary) in config.zone.iter().zip(summaries.iter()) {
+        let signing = summary.signing;
+        match signing {
+            ZoneSigning::Unsigned => {}
+            _ => info!(rt; "zone {} is signed: {signing}", entry.name.name),
+        }
+    }
+}
+
+/// A line for each zone: its name, its serial, how many records it has, how it is signed, and its file.
 pub(crate) fn report(
     alloc: Global,
     config: &Config,

@@ -1,5 +1,6 @@
 //! A server: generation after generation at the listeners.
 
+use crate::load::log_signed;
 use crate::measures::{Measures, Shown};
 use crate::served_config::ServedConfig;
 use anyhow::Context;
@@ -349,7 +350,9 @@ impl Server {
         rt: &HostRuntime,
         listeners: Vec<Listener<R>>,
     ) -> anyhow::Result<Vec<Listener<R>>> {
-        info!(rt; "generation {} is served", self.served.number);
+        let served = &self.served;
+        info!(rt; "generation {} is served", served.number);
+        log_signed(rt, &served.config, served.zones.summaries.as_slice());
         self.phase = Phase::Serving;
         self.show(&machine, rt.alloc())?;
         if let Err(fault) = self.tell(rt.alloc()) {

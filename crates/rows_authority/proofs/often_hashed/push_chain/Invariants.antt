@@ -1,0 +1,5 @@
+use Rattle.dns_zone.specs.Owned.{AreLawful}
+use Rattle.rows_authority.proofs.often_hashed.push_chain.Given as goal
+
+abbrev pub invariant-each : goal.invariant-each
+invariant-each l = AreLawful l.records.items
