@@ -2,7 +2,7 @@
 
 ghost use Rattle.std.specs.Prelude.{◌≡◌, ◌++◌, IfOk, OnOk, map, string_bytes};
 ghost use Rattle.std.specs.Arc.{arc_value};
-ghost use Rattle.dns_listener.specs.Counting.{Reports, code_names, code_of, other_lines, reply_lines};
+ghost use Rattle.dns_listener.specs.Counting.{Reports, code_names, code_of, other_lines, reply_line, reply_lines};
 
 use crate::layers::Tally;
 use dns_base::Rcode;
@@ -103,13 +103,20 @@ fn all_replies(counts: &ReplyCounts) -> [ReplyNumbers; 8]
     ]
 }
 
+/// Appends the line of a response code.
+fn push_reply(text: &mut String, reply: &ReplyNumbers) -> Result<(), AllocError>
+    ensures { OnOk result (string_bytes text.new ≡ string_bytes text.old ++ reply_line reply.now) }
+{
+    let ReplyNumbers { code, udp, tcp } = *reply;
+    writeln!(text, "replies {code} {udp} over UDP, {tcp} over TCP")
+}
+
 /// Appends a line for each response code.
 fn push_replies(text: &mut String, replies: &[ReplyNumbers]) -> Result<(), AllocError>
     ensures { OnOk result (string_bytes text.new ≡ string_bytes text.old ++ reply_lines replies.now) }
 {
     'each: for reply in replies {
-        let ReplyNumbers { code, udp, tcp } = *reply;
-        writeln!(text, "replies {code} {udp} over UDP, {tcp} over TCP")?;
+        push_reply(text, reply)?;
     }
     Ok(())
 }
