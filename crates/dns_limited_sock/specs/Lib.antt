@@ -1,0 +1,5 @@
+pub mod Emptied
+pub mod GoodCookies
+pub mod Judging
+pub mod Kinds
+pub mod Settings
