@@ -1,21 +1,37 @@
 -- What is done with a reply.
 use Rattle.std.specs.Prelude.{ℕ, ◌≡◌, Bool, true, false, Contains, List, [], ◌∷◌, ◌++◌, Option, Some, None, nat_eq, if◌then◌else◌}
 use Rattle.dns_name.specs.declared.address.IpAddr.{IpAddr}
-use Rattle.dns_rate_limit.specs.Limited.{LimitsState, behind_judged, judged}
+use Rattle.std.specs.NonZero.{non_zero_usize_get}
+use Rattle.dns_rate_limit.specs.Limited.{LimitsState, behind_judged, judged, table_of}
+use Rattle.dns_rate_limit.specs.declared.limits.Settings.{Settings}
 use Rattle.dns_rate_limit.specs.declared.kind.Kind.{Kind}
 use Rattle.dns_rate_limit.specs.declared.rate.Verdict.{Verdict}
 use Rattle.dns_rate_limit.specs.declared.rate.Verdict.TheVariants.{Whole}
 use Rattle.dns_rate_limit.specs.declared.zone_client.ZoneClient.{ZoneClient}
 
 module _ (same : IpAddr → IpAddr → Bool) (same_client : ZoneClient → ZoneClient → Bool) where
-  -- what tables say, if there are any
-  abbrev pub verdict_by : Option LimitsState → IpAddr → Bool → Kind → ℕ → Verdict
-  verdict_by None address has_cookie kind second = Whole
-  verdict_by (Some l) address has_cookie kind second = judged same same_client l address has_cookie kind second
+  -- what tables say of a reply to a client without a good cookie, if there are any
+  abbrev pub verdict_by : Option LimitsState → IpAddr → Kind → ℕ → Verdict
+  verdict_by None address kind second = Whole
+  verdict_by (Some l) address kind second = judged same same_client l address false kind second
 
-  abbrev pub tables_behind : Option LimitsState → IpAddr → Bool → Kind → ℕ → Option LimitsState
-  tables_behind None address has_cookie kind second = None
-  tables_behind (Some l) address has_cookie kind second = Some (behind_judged same same_client l address has_cookie kind second)
+  abbrev pub tables_behind : Option LimitsState → IpAddr → Kind → ℕ → Option LimitsState
+  tables_behind None address kind second = None
+  tables_behind (Some l) address kind second = Some (behind_judged same same_client l address false kind second)
+
+-- the tables of settings, which are empty
+abbrev pub limits_of : Settings → LimitsState
+limits_of s =
+    let n = non_zero_usize_get s.capacity in
+    record {
+      answers = table_of n s.answers;
+      referrals = table_of n s.referrals;
+      negatives = table_of n s.negatives;
+      errors = table_of n s.errors;
+      ipv4_bits = s.ipv4_bits;
+      ipv6_bits = s.ipv6_bits;
+      exempt = s.exempt.items;
+    }
 
 -- ---- notes
 

@@ -2,4 +2,5 @@ pub mod Emptied
 pub mod GoodCookies
 pub mod Judging
 pub mod Kinds
+pub mod Sends
 pub mod Settings

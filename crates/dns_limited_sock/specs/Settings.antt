@@ -4,7 +4,7 @@ use Rattle.std.specs.NonZero.{non_zero_usize_get}
 use Rattle.dns_config.specs.declared.prefix.Prefix.{Prefix}
 use Rattle.dns_config.specs.declared.rate_limit.RateLimit.{RateLimit}
 use Rattle.dns_rate_limit.specs.declared.limits.Settings.{Settings}
-use Rattle.dns_rate_limit.specs.declared.network.Network.{Network}
+use Rattle.dns_networks.specs.declared.network.Network.{Network}
 use Rattle.dns_rate_limit.specs.declared.rate.Rate.{Rate}
 
 -- so many a second, 15 seconds of a window, and one of two truncated, if nothing else is said

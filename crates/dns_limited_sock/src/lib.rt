@@ -35,7 +35,6 @@
 #![tactic(auto)]
 
 mod cookie;
-mod emptied;
 mod good_cookies;
 mod limited_sock;
 mod limiting;
@@ -43,12 +42,13 @@ mod noted;
 mod reply_kind;
 mod settings;
 mod tables;
+mod truncation;
 
 pub use cookie::has_good_cookie;
-pub use emptied::emptied;
 pub use good_cookies::GoodCookies;
 pub use limited_sock::LimitedSock;
 pub use limiting::{LimitNumbers, Limiting};
 pub use noted::LimitNote;
 pub use reply_kind::ReplyKind;
 pub use settings::LimitSettings;
+pub use truncation::emptied;

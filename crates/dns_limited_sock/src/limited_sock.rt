@@ -1,15 +1,18 @@
 //! A socket whose replies are limited.
 
-ghost use Rattle.std.specs.Prelude.{◌≡◌, ◌≤◌, ℕ, []};
-ghost use Rattle.dns_io.specs.SockTraffic.{SendBound, SendCause};
-ghost use Rattle.dns_rate_limit.specs.declared.rate.Verdict.TheVariants.{Dropped};
+ghost use Rattle.std.specs.Prelude.{◌≡◌, ◌≤◌, ℕ, [], Some, None, IfOk, length, option_map};
+ghost use Rattle.dns_io.specs.Causes.{Observed};
+ghost use Rattle.dns_io.specs.SockTraffic.{SendBound, SendCause, SendMoves};
+ghost use Rattle.dns_rate_limit.specs.declared.rate.Verdict.TheVariants.{Whole};
+ghost use Rattle.dns_limited_sock.specs.declared.good_cookies.Exchange.{Exchange};
+ghost use Rattle.dns_limited_sock.specs.GoodCookies.{IsAwaited, exchange_of};
+ghost use Rattle.dns_limited_sock.specs.Sends.{EmptiedMoves, MayTakePlace, MovesAsJudged, MovesBy, ShortMoves, in_place_of};
 
-use crate::cookie::has_good_cookie;
-use crate::emptied::emptied;
 use crate::good_cookies::{Exchange, GoodCookies};
 use crate::limiting::Limiting;
 use crate::reply_kind::ReplyKind;
-use dns_base::{MessageRef, number_at};
+use crate::truncation::emptied;
+use dns_base::MessageRef;
 use dns_io::{AsyncDgramSock, Clock, DgramRecv, DgramSend};
 use dns_name::{OutOfMemory, SocketAddr};
 use dns_rate_limit::Verdict;
@@ -35,26 +38,24 @@ pub struct LimitedSock<D, C, R> {
     held: Option<Held>,
 }
 
-/// The reply or request that octets are, with its other end, if they have an identifier.
-fn exchange_of(octets: &[u8], peer: SocketAddr) -> Option<Exchange> {
-    if octets.len() < 12 {
-        return None;
-    }
-    Some(Exchange {
-        peer,
-        id: number_at(octets, 0),
-    })
-}
-
-/// The answer of a send, if something else was sent in place of octets.
+/// The answer of a send, as if all of these octets had been sent.
 fn in_place_of(octets: &[u8], answer: DgramSend) -> DgramSend
-    ensures bound { SendBound result octets.now }
-    ensures cause { (a b : ℕ) → SendCause answer a b → SendCause result a b }
+    ensures { result ≡ in_place_of (length octets.now) answer }
 {
     match answer {
         DgramSend::Took(_) => DgramSend::Took(octets.len()),
         DgramSend::Again => DgramSend::Again,
         DgramSend::Failed => DgramSend::Failed,
+    }
+}
+
+/// What takes the place of a reply; nothing without memory.
+fn short_of(alloc: Global, reply: &[u8]) -> Option<Vec<u8>>
+    ensures { MayTakePlace reply.now (option_map (λ v. v.items) result) }
+{
+    match emptied(alloc, reply) {
+        Ok(short) => short,
+        Err(_) => None,
     }
 }
 
@@ -85,7 +86,7 @@ impl<D, C: Clock, R: Wait> LimitedSock<D, C, R> {
         ensures { self.new.inner ≡ self.old.inner }
     {
         let (Some(exchange), Ok(message)) = (
-            exchange_of(request, from),
+            Exchange::of(request, from),
             MessageRef::from_slice(request),
         ) else {
             return;
@@ -94,14 +95,13 @@ impl<D, C: Clock, R: Wait> LimitedSock<D, C, R> {
             return;
         };
         let (_, second) = self.clock.latest();
-        if has_good_cookie(&message, &secret, from.ip, second) {
-            self.good.put(exchange);
-        }
+        self.good.hear(exchange, &message, &secret, second);
     }
 
-    /// What is done with a reply, which is counted.
+    /// What is done with a reply, which is counted. One to a request with a good cookie is sent whole.
     fn judged(&mut self, exchange: Exchange, reply: &[u8]) -> Result<Verdict, OutOfMemory>
-        ensures { self.new.inner ≡ self.old.inner }
+        ensures inner { self.new.inner ≡ self.old.inner }
+        ensures good { IsAwaited exchange self.old.good.waiting.items → IfOk result (λ v. v ≡ Whole) }
     {
         let Ok(message) = MessageRef::from_slice(reply) else {
             return Ok(Verdict::Whole);
@@ -124,10 +124,11 @@ impl<D, C: Clock, R: Wait> LimitedSock<D, C, R> {
 
     /// What is done with a reply. One that found no room before is judged once.
     fn verdict(&mut self, exchange: Exchange, reply: &[u8]) -> Verdict
-        ensures { self.new.inner ≡ self.old.inner }
+        ensures inner { self.new.inner ≡ self.old.inner }
+        ensures good { self.old.held ≡ None → IsAwaited exchange self.old.good.waiting.items → result ≡ Whole }
     {
         if let Some(held) = self.held.take() {
-            if held.exchange.is_same(exchange) {
+            if exchange.is_same(held.exchange) {
                 return held.verdict;
             }
         }
@@ -139,29 +140,45 @@ impl<D, C: Clock, R: Wait> LimitedSock<D, C, R> {
 }
 
 impl<D: AsyncDgramSock, C: Clock, R: Wait> LimitedSock<D, C, R> {
-    /// Sends what takes the place of a reply.
-    fn send_emptied(&mut self, reply: &[u8], to: SocketAddr) -> DgramSend
+    /// Sends what takes the place of a reply, if there is something.
+    fn send_in_place(&mut self, short: &Option<Vec<u8>>, reply: &[u8], to: SocketAddr) -> DgramSend
+        ensures moves { Observed (D.tells self.new.inner) (D.tells self.old.inner) (ShortMoves (option_map (λ v. v.items) short.now) result
+            to (D.sock_traffic self.old.inner) (D.sock_traffic self.new.inner)) }
         ensures bound { SendBound result reply.now }
         ensures receives { D.failed_receives self.new.inner ≡ D.failed_receives self.old.inner }
         ensures later { D.failed_sends self.old.inner ≤ D.failed_sends self.new.inner }
         ensures cause { SendCause result (D.failed_sends self.old.inner) (D.failed_sends self.new.inner) }
     {
-        match emptied(self.alloc, reply) {
-            Ok(Some(short)) => {
+        match short {
+            Some(short) => {
                 let answer = self.inner.poll_send_to(short.as_slice(), to);
                 in_place_of(reply, answer)
             }
-            Ok(None) | Err(_) => DgramSend::Took(reply.len()),
+            None => DgramSend::Took(reply.len()),
         }
     }
 
-    /// Sends a reply as it was judged.
-    fn send_by(&mut self, verdict: Verdict, reply: &[u8], to: SocketAddr) -> DgramSend
+    /// Sends a reply's header with TC and its questions in its place.
+    fn send_emptied(&mut self, reply: &[u8], to: SocketAddr) -> DgramSend
+        ensures moves { Observed (D.tells self.new.inner) (D.tells self.old.inner) (EmptiedMoves result reply.now to
+            (D.sock_traffic self.old.inner) (D.sock_traffic self.new.inner)) }
         ensures bound { SendBound result reply.now }
         ensures receives { D.failed_receives self.new.inner ≡ D.failed_receives self.old.inner }
         ensures later { D.failed_sends self.old.inner ≤ D.failed_sends self.new.inner }
         ensures cause { SendCause result (D.failed_sends self.old.inner) (D.failed_sends self.new.inner) }
-        ensures dropped { verdict ≡ Dropped → self.new.inner ≡ self.old.inner }
+    {
+        let short = short_of(self.alloc, reply);
+        self.send_in_place(&short, reply, to)
+    }
+
+    /// Sends a reply as it was judged.
+    fn send_by(&mut self, verdict: Verdict, reply: &[u8], to: SocketAddr) -> DgramSend
+        ensures moves { Observed (D.tells self.new.inner) (D.tells self.old.inner) (MovesBy verdict result reply.now to
+            (D.sock_traffic self.old.inner) (D.sock_traffic self.new.inner)) }
+        ensures bound { SendBound result reply.now }
+        ensures receives { D.failed_receives self.new.inner ≡ D.failed_receives self.old.inner }
+        ensures later { D.failed_sends self.old.inner ≤ D.failed_sends self.new.inner }
+        ensures cause { SendCause result (D.failed_sends self.old.inner) (D.failed_sends self.new.inner) }
     {
         match verdict {
             Verdict::Whole => self.inner.poll_send_to(reply, to),
@@ -172,6 +189,11 @@ impl<D: AsyncDgramSock, C: Clock, R: Wait> LimitedSock<D, C, R> {
 
     /// Sends a reply of an exchange as it is judged. If there is no room, what it was judged to be is held.
     fn send_limited(&mut self, exchange: Exchange, reply: &[u8], to: SocketAddr) -> DgramSend
+        ensures moves { Observed (D.tells self.new.inner) (D.tells self.old.inner) (MovesAsJudged result reply.now to
+            (D.sock_traffic self.old.inner) (D.sock_traffic self.new.inner)) }
+        ensures good { self.old.held ≡ None → IsAwaited exchange self.old.good.waiting.items
+            → Observed (D.tells self.new.inner) (D.tells self.old.inner) (SendMoves result reply.now to
+            (D.sock_traffic self.old.inner) (D.sock_traffic self.new.inner)) }
         ensures bound { SendBound result reply.now }
         ensures receives { D.failed_receives self.new.inner ≡ D.failed_receives self.old.inner }
         ensures later { D.failed_sends self.old.inner ≤ D.failed_sends self.new.inner }
@@ -195,11 +217,22 @@ impl<D: AsyncDgramSock, C: Clock, R: Wait> AsyncDgramSock for LimitedSock<D, C, 
 
     ghost failed_sends = { λ s. D.failed_sends s.inner };
 
-    fn poll_send_to(&mut self, octets: &[u8], to: SocketAddr) -> DgramSend {
+    fn poll_send_to(&mut self, octets: &[u8], to: SocketAddr) -> DgramSend
+        ensures moves { Observed (D.tells self.new.inner) (D.tells self.old.inner) (MovesAsJudged result octets.now to
+            (D.sock_traffic self.old.inner) (D.sock_traffic self.new.inner)) }
+        ensures good { (e : Exchange) → exchange_of octets.now to ≡ Some e → self.old.held ≡ None
+            → IsAwaited e self.old.good.waiting.items
+            → Observed (D.tells self.new.inner) (D.tells self.old.inner) (SendMoves result octets.now to
+            (D.sock_traffic self.old.inner) (D.sock_traffic self.new.inner)) }
+        ensures bound { SendBound result octets.now }
+        ensures receives { D.failed_receives self.new.inner ≡ D.failed_receives self.old.inner }
+        ensures later { D.failed_sends self.old.inner ≤ D.failed_sends self.new.inner }
+        ensures cause { SendCause result (D.failed_sends self.old.inner) (D.failed_sends self.new.inner) }
+    {
         if !self.limiting.is_on() {
             return self.inner.poll_send_to(octets, to);
         }
-        match exchange_of(octets, to) {
+        match Exchange::of(octets, to) {
             Some(exchange) => self.send_limited(exchange, octets, to),
             None => self.inner.poll_send_to(octets, to),
         }

@@ -94,11 +94,7 @@ impl Limiting {
         second: u64,
     ) -> Result<(Verdict, Option<LimitNote>), OutOfMemory> {
         let mut tables = self.tables.lock(rt);
-        let verdict = tables.judge(alloc, client, false, kind, second)?;
-        match verdict {
-            Verdict::Whole => Ok((verdict, None)),
-            Verdict::Truncated | Verdict::Dropped => { Ok((verdict, tables.note(client, second))) }
-        }
+        tables.ask(alloc, client, kind, second)
     }
 
     /// What is done with a reply to a client at a second, which is counted. One to a request with a good cookie isn't limited, and one

@@ -6,7 +6,8 @@ ghost use Rattle.dns_limited_sock.specs.Settings.{IsSettingsOf, capacity_of, exe
 
 use dns_config::{Prefix, RateLimit};
 use dns_name::OutOfMemory;
-use dns_rate_limit::{Network, Rate, Settings};
+use dns_networks::Network;
+use dns_rate_limit::{Rate, Settings};
 use std::alloc::Global;
 use std::num::NonZeroUsize;
 

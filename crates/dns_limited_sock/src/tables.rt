@@ -1,12 +1,14 @@
 //! The tables of limits, and what of them is noted.
 
-ghost use Rattle.std.specs.Prelude.{◌≡◌, OnOk, OnErr, IfOk};
-ghost use Rattle.dns_limited_sock.specs.Judging.{tables_behind, verdict_by};
+ghost use Rattle.std.specs.Prelude.{◌≡◌, ◌/◌, OnOk, OnErr, IfOk, IfSome, is_some, option_and_then, option_map};
+ghost use Rattle.dns_networks.specs.Networks.{network_of};
+ghost use Rattle.dns_limited_sock.specs.Judging.{MayNote, limits_of, noted_at, tables_behind, verdict_by};
 
 use crate::noted::{LimitNote, Noted};
 use crate::settings::LimitSettings;
 use dns_name::{IpAddr, OutOfMemory};
-use dns_rate_limit::{Kind, Limits, Verdict, ZoneClient, network_of};
+use dns_networks::network_of;
+use dns_rate_limit::{Kind, Limits, Verdict, ZoneClient};
 use std::alloc::Global;
 use std::hash::RandomState;
 
@@ -50,7 +52,15 @@ impl Tables {
         alloc: Global,
         settings: Option<LimitSettings>,
         seed: RandomState,
-    ) -> Result<(), OutOfMemory> {
+    ) -> Result<(), OutOfMemory>
+        ensures limits { OnOk result (self.new.limits ≡ option_map (λ s. limits_of s.settings) settings) }
+        ensures secret { OnOk result (self.new.secret ≡ option_and_then (λ s. s.secret) settings) }
+        ensures bits { OnOk result (IfSome settings (λ s. self.new.bits ≡ record {
+          ipv4 = s.settings.ipv4_bits;
+          ipv6 = s.settings.ipv6_bits;
+        })) }
+        ensures err { OnErr result (self.new ≡ self.old) }
+    {
         match settings {
             Some(LimitSettings { settings, secret }) => {
                 let bits = NetworkBits {
@@ -81,25 +91,49 @@ impl Tables {
         &mut self,
         alloc: Global,
         client: IpAddr,
-        has_cookie: bool,
         kind: &Kind<'_>,
         second: u64,
     ) -> Result<Verdict, OutOfMemory>
         ensures verdict { IfOk result (λ v. v ≡ verdict_by (⟦<IpAddr as PartialEq>⟧.eq)
-            (⟦<ZoneClient as PartialEq>⟧.eq) self.old.limits client has_cookie kind.now second) }
+            (⟦<ZoneClient as PartialEq>⟧.eq) self.old.limits client kind.now second) }
         ensures tables { OnOk result (self.new.limits ≡ tables_behind (⟦<IpAddr as PartialEq>⟧.eq)
-            (⟦<ZoneClient as PartialEq>⟧.eq) self.old.limits client has_cookie kind.now second) }
+            (⟦<ZoneClient as PartialEq>⟧.eq) self.old.limits client kind.now second) }
         ensures err { OnErr result (self.new.limits ≡ self.old.limits) }
     {
         match &mut self.limits {
-            Some(limits) => limits.judge(alloc, client, has_cookie, kind, second),
+            Some(limits) => limits.judge(alloc, client, false, kind, second),
             None => Ok(Verdict::Whole),
         }
     }
 
+    /// What is done with a reply, which the table of its kind counts, and the network of its client, if that is limited and to be
+    /// noted.
+    pub(crate) fn ask(
+        &mut self,
+        alloc: Global,
+        client: IpAddr,
+        kind: &Kind<'_>,
+        second: u64,
+    ) -> Result<(Verdict, Option<LimitNote>), OutOfMemory>
+        ensures verdict { IfOk result (λ r. r.0 ≡ verdict_by (⟦<IpAddr as PartialEq>⟧.eq)
+            (⟦<ZoneClient as PartialEq>⟧.eq) self.old.limits client kind.now second) }
+        ensures tables { OnOk result (self.new.limits ≡ tables_behind (⟦<IpAddr as PartialEq>⟧.eq)
+            (⟦<ZoneClient as PartialEq>⟧.eq) self.old.limits client kind.now second) }
+        ensures err { OnErr result (self.new.limits ≡ self.old.limits) }
+    {
+        let verdict = self.judge(alloc, client, kind, second)?;
+        match verdict {
+            Verdict::Whole => Ok((verdict, None)),
+            Verdict::Truncated | Verdict::Dropped => Ok((verdict, self.note(client, second))),
+        }
+    }
+
     /// The network of a client whose replies are limited, if it is to be noted at a second.
-    pub(crate) fn note(&mut self, client: IpAddr, second: u64) -> Option<LimitNote>
-        ensures { self.new.limits ≡ self.old.limits }
+    fn note(&mut self, client: IpAddr, second: u64) -> Option<LimitNote>
+        ensures limits { self.new.limits ≡ self.old.limits }
+        ensures noted { MayNote (network_of self.old.bits.ipv4 self.old.bits.ipv6 client) (noted_at (second / 60) self.old.noted)
+            self.new.noted (is_some result) }
+        ensures network { IfSome result (λ n. n.address ≡ network_of self.old.bits.ipv4 self.old.bits.ipv6 client) }
     {
         let NetworkBits { ipv4, ipv6 } = self.bits;
         let address = network_of(client, ipv4, ipv6);

@@ -21,15 +21,18 @@ reply_line n =
 abbrev pub reply_lines : List ReplyNumbers → List ℕ
 reply_lines replies = flat_map reply_line replies
 
--- the lines of connections, responses that were dropped, transfers, and replies that were limited
+-- the lines of connections, responses that were dropped, and transfers
 abbrev pub other_lines : Numbers → List ℕ
 other_lines n =
     codes "connections " ++ decimal n.connections ++ codes " accepted\n"
     ++ codes "responses " ++ decimal n.dropped ++ codes " dropped\n"
     ++ codes "transfers " ++ decimal n.begun ++ codes " begun, " ++ decimal n.refused ++ codes " refused\n"
-    ++ codes "limited replies " ++ decimal n.truncated ++ codes " truncated, " ++ decimal n.limited ++ codes " not sent\n"
+
+-- the line of replies that were limited
+abbrev pub limited_line : Numbers → List ℕ
+limited_line n = codes "limited replies " ++ decimal n.truncated ++ codes " truncated, " ++ decimal n.limited ++ codes " not sent\n"
 
 -- a text says numbers
 abbrev pub Reports : List ℕ → Type 0
 Reports text =
-    (n : Numbers) × (map code_of n.replies ≡ code_names) × (text ≡ reply_lines n.replies ++ other_lines n)
+    (n : Numbers) × (map code_of n.replies ≡ code_names) × (text ≡ reply_lines n.replies ++ (other_lines n ++ limited_line n))

@@ -2,7 +2,7 @@
 
 ghost use Rattle.std.specs.Prelude.{◌≡◌, ◌++◌, IfOk, OnOk, map, string_bytes};
 ghost use Rattle.std.specs.Arc.{arc_value};
-ghost use Rattle.dns_listener.specs.Counting.{Reports, code_names, code_of, other_lines, reply_line, reply_lines};
+ghost use Rattle.dns_listener.specs.Counting.{Reports, code_names, code_of, limited_line, other_lines, reply_line, reply_lines};
 
 use crate::layers::Tally;
 use dns_base::Rcode;
@@ -130,13 +130,22 @@ fn push_others(text: &mut String, numbers: &Numbers) -> Result<(), AllocError>
         dropped,
         begun,
         refused,
-        truncated,
-        limited,
         ..
     } = *numbers;
     writeln!(text, "connections {connections} accepted")?;
     writeln!(text, "responses {dropped} dropped")?;
-    writeln!(text, "transfers {begun} begun, {refused} refused")?;
+    writeln!(text, "transfers {begun} begun, {refused} refused")
+}
+
+/// Appends the line of replies that were limited.
+fn push_limited(text: &mut String, numbers: &Numbers) -> Result<(), AllocError>
+    ensures { OnOk result (string_bytes text.new ≡ string_bytes text.old ++ limited_line numbers.now) }
+{
+    let Numbers {
+        truncated,
+        limited,
+        ..
+    } = *numbers;
     writeln!(
         text,
         "limited replies {truncated} truncated, {limited} not sent"
@@ -251,6 +260,7 @@ impl Counters {
         let mut text = String::new(alloc);
         push_replies(&mut text, &numbers.replies)?;
         push_others(&mut text, &numbers)?;
+        push_limited(&mut text, &numbers)?;
         Ok(text)
     }
 }
