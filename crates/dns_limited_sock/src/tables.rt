@@ -106,8 +106,8 @@ impl Tables {
         }
     }
 
-    /// What is done with a reply, which the table of its kind counts, and the network of its client, if that is limited and to be
-    /// noted.
+    /// What is done with a reply, which the table of its kind counts. With it comes the network of its client, if that is limited and to
+    /// be noted.
     pub(crate) fn ask(
         &mut self,
         alloc: Global,
