@@ -5,6 +5,8 @@ use Rattle.dns_message.specs.Header.{header_of}
 use Rattle.dns_message.specs.Msg.{ResourceRecord}
 use Rattle.dns_message.specs.Sections.{answers_of, field, reached, standing_authority}
 use Rattle.dns_message.specs.Standing.{Standing}
+use Rattle.dns_rate_limit.specs.declared.kind.Kind.{Kind}
+use Rattle.dns_rate_limit.specs.declared.kind.Kind.TheVariants.{Answer as CountedAnswer, Referral as CountedReferral, Negative as CountedNegative, Error as CountedError}
 use Rattle.dns_limited_sock.specs.declared.reply_kind.ReplyKind.{ReplyKind}
 use Rattle.dns_limited_sock.specs.declared.reply_kind.ReplyKind.TheVariants.{Answer, Referral, Negative, Error}
 
@@ -36,3 +38,10 @@ abbrev pub kind_of : List ℕ → ReplyKind
 kind_of o = if is_error (header_of o).rcode then Error
     else (if nat_eq (header_of o).rcode 0 && nat_lt 0 (field 6 o) then Answer
     else unwrap_or (kind_in (reached (answers_of o).1 (standing_authority o))) Answer)
+
+-- the kind by which a response is counted
+abbrev pub counted_as : ReplyKind → Kind
+counted_as Answer = CountedAnswer
+counted_as Referral = CountedReferral
+counted_as (Negative zone) = CountedNegative zone
+counted_as Error = CountedError

@@ -1,6 +1,6 @@
 //! Requests that came by a good cookie.
 
-ghost use Rattle.std.specs.Prelude.{◌≡◌, ◌≤◌, length, position};
+ghost use Rattle.std.specs.Prelude.{◌≡◌, ◌≤◌, [], length, position};
 ghost use Rattle.dns_limited_sock.specs.GoodCookies.{HasGoodCookie, Puts, Takes, exchange_of, is_same};
 
 use crate::cookie::has_good_cookie;
@@ -60,7 +60,9 @@ pub struct GoodCookies {
 
 impl GoodCookies {
     /// None yet.
-    pub fn new(alloc: Global) -> GoodCookies {
+    pub fn new(alloc: Global) -> GoodCookies
+        ensures { result.waiting.items ≡ [] }
+    {
         GoodCookies {
             waiting: Vec::new(alloc),
         }

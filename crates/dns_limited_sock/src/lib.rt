@@ -22,16 +22,18 @@
 //! # What is proved
 //!
 //! - The kind of a reply is that of its response code, its answers and its authority section (`kind_of`).
-//! - In place of a reply that is truncated goes its header with TC and its questions, without records (`IsEmptied`).
-//! - What is done with a reply is what the tables say, which count it (`Tables::judge`). A reply to a request with a good cookie
-//!   isn't limited (`Limiting::judge`). What dns_rate_limit proves of tables so holds of what is sent.
-//! - A request is remembered exactly if it has a good server cookie (`has_good_cookie`), and lets one reply through.
-//! - A network is noted if it wasn't noted in this minute, and if there is room (`Noted::is_first`).
+//! - What is done with a reply is what the tables say, which count it (`Tables::judge`). So what dns_rate_limit proves of tables holds of
+//!   what is sent: no network is limited by what others ask, and none below its rate.
+//! - Below goes out a reply whole, its header with TC and its questions, or nothing (`MovesAsJudged`), to the address that it is for.
+//! - A reply to a request with a good server cookie goes out whole (`IsAwaited`). A request is remembered exactly if it has one
+//!   (`HasGoodCookie`), and lets one reply through.
+//! - Other settings begin with empty tables (`limits_of`).
+//! - A network is noted only if it wasn't noted in this minute, and if there is room (`Noted::is_first`).
 //!
 //! # What a body could still get away with
 //!
-//! No clause says that a lock keeps what was put under it, so none says of two replies how they follow each other. Without memory a
-//! reply isn't limited.
+//! No clause says that a lock keeps what was put under it, so none says of two replies how they follow each other, nor that what is on is
+//! what was set. Without memory a reply isn't limited; one that is to be truncated isn't sent then.
 #![tactic(auto)]
 
 mod cookie;

@@ -68,7 +68,9 @@ impl<D, C: Clock, R: Wait> LimitedSock<D, C, R> {
         clock: C,
         limiting: Arc<Limiting>,
     ) -> LimitedSock<D, C, R>
-        ensures { result.inner ≡ inner }
+        ensures inner { result.inner ≡ inner }
+        ensures good { result.good.waiting.items ≡ [] }
+        ensures held { result.held ≡ None }
     {
         LimitedSock {
             inner,

@@ -1,6 +1,6 @@
 //! Networks whose limits are noted for a log.
 
-ghost use Rattle.std.specs.Prelude.{◌≡◌, ◌≤◌, length};
+ghost use Rattle.std.specs.Prelude.{◌≡◌, ◌≤◌, [], length};
 ghost use Rattle.dns_limited_sock.specs.Judging.{MayNote, noted_at};
 
 use dns_name::IpAddr;
@@ -35,7 +35,9 @@ impl Model for Noted {
 
 impl Noted {
     /// None yet.
-    pub(crate) fn new(alloc: Global) -> Noted {
+    pub(crate) fn new(alloc: Global) -> Noted
+        ensures { result.networks ≡ [] }
+    {
         Noted {
             minute: 0,
             networks: Vec::new(alloc),

@@ -1,7 +1,7 @@
 //! The kind of a reply, as it is read of its octets.
 
 ghost use Rattle.std.specs.Prelude.{◌≡◌, IfOk};
-ghost use Rattle.dns_limited_sock.specs.Kinds.{kind_among, kind_of, kind_of_record};
+ghost use Rattle.dns_limited_sock.specs.Kinds.{counted_as, kind_among, kind_of, kind_of_record};
 
 use dns_base::{MessageRef, Rcode, RecordIter, RecordRef, Rtype};
 use dns_name::{Name, OutOfMemory};
@@ -73,7 +73,9 @@ impl ReplyKind {
     }
 
     /// The kind by which it is counted.
-    pub fn as_kind(&self) -> Kind<'_> {
+    pub fn as_kind(&self) -> Kind<'_>
+        ensures { result ≡ counted_as self.now }
+    {
         match self {
             ReplyKind::Answer => Kind::Answer,
             ReplyKind::Referral => Kind::Referral,

@@ -1,6 +1,6 @@
 //! The tables of limits, and what of them is noted.
 
-ghost use Rattle.std.specs.Prelude.{◌≡◌, ◌/◌, OnOk, OnErr, IfOk, IfSome, is_some, option_and_then, option_map};
+ghost use Rattle.std.specs.Prelude.{◌≡◌, ◌/◌, None, OnOk, OnErr, IfOk, IfSome, is_some, option_and_then, option_map};
 ghost use Rattle.dns_networks.specs.Networks.{network_of};
 ghost use Rattle.dns_limited_sock.specs.Judging.{MayNote, limits_of, noted_at, tables_behind, verdict_by};
 
@@ -33,7 +33,10 @@ pub(crate) struct Tables {
 
 impl Tables {
     /// Nothing is limited.
-    pub(crate) fn new(alloc: Global) -> Tables {
+    pub(crate) fn new(alloc: Global) -> Tables
+        ensures limits { result.limits ≡ None }
+        ensures secret { result.secret ≡ None }
+    {
         Tables {
             limits: None,
             bits: NetworkBits {
