@@ -102,8 +102,8 @@ fn chained(
 }
 
 impl HashedZone {
-    /// The zone that begins at an apex and has these records, with the chain of its NSEC3 records. Refused for the first of the
-    /// causes in the order of `HashedZoneError`.
+    /// The zone that begins at an apex and has these records, with the chain of its NSEC3 records. Refused for a cause of
+    /// `HashedZoneError`.
     pub fn of(
         alloc: Global,
         apex: Name,

@@ -17,7 +17,7 @@ pub enum HashedChainError {
     Unfounded(usize),
     /// The place of the first NSEC3 that doesn't point to the next, in the order of hashes.
     Unlinked(usize),
-    /// The place, among the NSEC3 records and their RRSIGs, of the first RRSIG whose owner has no NSEC3 record.
+    /// The place, among the NSEC3 records and their RRSIGs, of an RRSIG whose owner has no NSEC3 record.
     Unowned(usize),
     OutOfMemory,
 }
@@ -42,7 +42,7 @@ impl From<AllocError> for HashedChainError {
     }
 }
 
-/// Why records are no zone with a whole chain of NSEC3s: the first of these causes. Places in `Tree` and in `Unlisted` are those
+/// Why records are no zone with a whole chain of NSEC3s: one of these causes. Places in `Tree` and in `Unlisted` are those
 /// among the other records than NSEC3 records and their RRSIGs.
 #[derive(Clone, Copy, Debug)]
 pub enum HashedZoneError {

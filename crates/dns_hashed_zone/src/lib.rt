@@ -17,7 +17,7 @@
 //!
 //! - A `HashedZone` has a whole chain (`IsWhole3` of dns_denial), and its NSEC3s are those of its records. Each NSEC3 has the
 //!   records of its owner, and no record is lost (`specs/MadeHashed.antt`).
-//! - A refusal says a cause: what records are no chain or no zone, or the first place at which the chain isn't whole. Which names
+//! - A refusal says a cause: what records are no chain or no zone, or a place at which the chain isn't whole. Which names
 //!   need an NSEC3, and what it lists, stands in `specs/HashedChecks.antt`.
 //! - `search` and `near` find the NSEC3s that the definitions of RFC 5155, section 7.2.1, name (`specs/Searches.antt`).
 //!
@@ -25,7 +25,8 @@
 //!
 //! How many hashes a call makes. By reading the code `search` makes one for each name from the one asked up to its closest
 //! provable encloser, and `near` makes one. The check of a chain makes one for each name at or above the owner of a record. It
-//! makes none for a record with the owner of the one before it. In what order the records of one NSEC3 stand isn't said either.
+//! makes none for a record with the owner of the one before it. In what order the records of one NSEC3 stand isn't said either. Nor is
+//! which of several causes a refusal names.
 #![tactic(auto)]
 
 mod check;

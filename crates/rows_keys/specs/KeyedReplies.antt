@@ -13,6 +13,6 @@ abbrev pub reply_by_key : {K : Type 0} → Bool → Req (Option K) → Item
 reply_by_key fails r = if fails then Err InternalError
     else Ok (record { response = Some (error_reply r.octets (code_for r.metadata)); feedback = None })
 
--- NXDOMAIN to each request
-abbrev pub plain_reply : List ℕ → Item
-plain_reply o = Ok (record { response = Some (error_reply o 3); feedback = None })
+-- a response code to each request
+abbrev pub plain_reply : ℕ → List ℕ → Item
+plain_reply code o = Ok (record { response = Some (error_reply o code); feedback = None })

@@ -1,8 +1,7 @@
 //! The calls of dns_key_access: a service whose transfers and NOTIFYs want a key.
 
 ghost use Rattle.std.specs.Prelude.{◌≡◌};
-ghost use Rattle.dns_service.specs.Once.{once};
-ghost use Rattle.dns_service.specs.Req.{hint_at_entry};
+ghost use Rattle.std.specs.Result.{ForOk};
 ghost use Rattle.rows_keys.specs.KeyedReplies.{plain_reply};
 
 use crate::layer::given_by;
@@ -11,8 +10,8 @@ use dns_base::{Message, Name};
 use dns_key_access::{Access, KeyAccess, KeyAccessSvc, ZoneAccess};
 use dns_name::{OptRcode, OutOfMemory, SocketAddr};
 use dns_service::{
-    CallResult, NonUdpTransportContext, Now, Once, Request, Service, TransportSpecificContext,
-    mk_error_response,
+    CallResult, Gives, NonUdpTransportContext, Request, ServiceResult, TransportSpecificContext,
+    mk_error_response, service_fn,
 };
 use rows_table::{Calls, Row, RowError};
 use std::alloc::Global;
@@ -31,23 +30,23 @@ impl Calls for Judging {
     }
 }
 
-/// Replies with NXDOMAIN.
-#[derive(Drop)]
-struct NoSuchName;
+/// What a service replies: the response code that it has.
+struct AsCoded;
 
-impl<Meta: Drop> Service<Meta> for NoSuchName {
-    type Stream = Once;
+impl Gives<OptRcode> for AsCoded {
+    ghost item = { λ r code. plain_reply code r.octets };
+}
 
-    type Future = Now<Once>;
-
-    ghost answer = { λ s r. once (plain_reply r.octets) };
-
-    ghost hint = { λ s. hint_at_entry };
-
-    fn call(&self, alloc: Global, request: &mut Request<Meta>) -> Result<Now<Once>, OutOfMemory> {
-        let reply = mk_error_response(alloc, request.message(), OptRcode::NXDOMAIN)?;
-        Ok(Now::new(Once::new(Ok(CallResult::new(reply)))))
-    }
+/// The reply with a response code.
+fn coded(
+    alloc: Global,
+    request: &Request<()>,
+    code: &OptRcode,
+) -> Result<ServiceResult, OutOfMemory>
+    ensures { ForOk result (λ i. i ≡ plain_reply code.now request.now.octets) }
+{
+    let reply = mk_error_response(alloc, request.message(), *code)?;
+    Ok(Ok(CallResult::new(reply)))
 }
 
 /// A zone with one rule.
@@ -89,7 +88,8 @@ fn judged(row: &mut Row<'_>) {
     let Ok(access) = access_of(alloc, &apex, access) else {
         return row.fail(RowError::OutOfMemory);
     };
-    let service = KeyAccessSvc::new(NoSuchName, access);
+    let inner = service_fn::<AsCoded, _, _>(coded, OptRcode::NXDOMAIN);
+    let service = KeyAccessSvc::new(inner, access);
     let transport = TransportSpecificContext::NonUdp(NonUdpTransportContext::new(None));
     let sender = SocketAddr { ip, port: 5353 };
     match Request::new(alloc, sender, 0, 0, message, transport, key) {
