@@ -23,13 +23,13 @@ pub enum ReplyKind {
 
 /// What a record of the authority section says: an SOA record that there is no such data in its zone (RFC 2308, section 2), an NS
 /// record that its zone's servers are to be asked (RFC 1034, section 4.3.1).
-fn kind_of_record(alloc: Global, record: &RecordRef<'_>) -> Result<Option<ReplyKind>, OutOfMemory>
-    ensures { IfOk result (λ kind. kind ≡ kind_of_record record.now.resource) }
+fn kind_of_record(alloc: Global, entry: &RecordRef<'_>) -> Result<Option<ReplyKind>, OutOfMemory>
+    ensures { IfOk result (λ kind. kind ≡ kind_of_record entry.now.resource) }
 {
-    if record.rtype() == Rtype::SOA {
-        return Ok(Some(ReplyKind::Negative(record.owner().to_name(alloc)?)));
+    if entry.rtype() == Rtype::SOA {
+        return Ok(Some(ReplyKind::Negative(entry.owner().to_name(alloc)?)));
     }
-    if record.rtype() == Rtype::NS {
+    if entry.rtype() == Rtype::NS {
         return Ok(Some(ReplyKind::Referral));
     }
     Ok(None)
