@@ -17,7 +17,7 @@ GROUPS = [
     ("Programs", 0, 1, 3, "#f6d6c4", "nutscythe zoned forwardd"),
     ("A server that runs", 1, 1, 2, "#f6d6c4", "dns_host_status dns_server dns_listener dns_zone_copies dns_notifier dns_control dns_metrics dns_proxy_status"),
     ("For callers from C", 1, 3, 1, "#f6d6c4", "dns_embed dns_reply_builder nutscythe_c"),
-    ("Servers over sockets", 2, 0, 1, "#f6d6c4", "dns_transport dns_query_link dns_socket_addr"),
+    ("Servers over sockets", 2, 0, 1, "#f6d6c4", "dns_transport dns_query_link dns_limited_sock dns_socket_addr"),
     ("Scripts, run, floods", 2, 2, 2, "#f6d6c4", "dns_trace dns_script dns_flood dns_run"),
     ("Signed zones", 3, 3, 1, "#f8e7b9", "dns_denial dns_nsec_data dns_nsec3_data dns_signed_zone dns_signed_reply dns_hashed_zone dns_hashed_reply"),
     ("Loops over links and sockets", 3, 0, 1, "#f6d6c4", "dns_recorder dns_stream_driver dns_dgram_driver dns_accepts dns_host dns_account dns_workers"),

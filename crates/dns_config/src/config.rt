@@ -8,6 +8,7 @@ use crate::address::Endpoint;
 use crate::fields::{AddressList, Identifier, ZoneName};
 use crate::key::KeyEntry;
 use crate::peer::{AllowedNetwork, Peer};
+use crate::rate_limit::RateLimit;
 use crate::secret::Secret;
 use dns_events::{ConnectionConfig, DgramConfig, Settings, StreamConfig};
 use dns_name::{Addrs, IpAddr, OutOfMemory};
@@ -37,6 +38,8 @@ pub struct Config {
     #[serde(default)]
     pub timeouts: Timeouts,
     pub cookies: Option<Cookies>,
+    /// Limits of what is sent to a client network over UDP.
+    pub rate_limit: Option<RateLimit>,
     /// The keys that are shared with other servers.
     #[serde(default)]
     pub key: Vec<KeyEntry>,

@@ -7,6 +7,7 @@
 //!   datagrams.
 //! - `KeyEntry` is a key that is shared with other servers, with its secret or the file that has it. `Peer` is such a server,
 //!   and `AllowedNetwork` a network; each may name a key.
+//! - `RateLimit` says how many replies a second a client network is sent over UDP.
 //! - `read_address`, `read_endpoint`, `read_prefix`, `read_secret` and `read_algorithm` read single values.
 //!
 //! ```text
@@ -34,6 +35,7 @@ mod fields;
 mod key;
 mod peer;
 mod prefix;
+mod rate_limit;
 mod secret;
 
 pub use address::{Endpoint, PeerAddress, read_address, read_endpoint};
@@ -42,4 +44,5 @@ pub use fields::{AddressList, Identifier, ZoneName, is_identifier};
 pub use key::{KeyAlgorithm, KeyEntry, KeyName, KeySecret, read_algorithm};
 pub use peer::{AllowedNetwork, Peer};
 pub use prefix::{Prefix, read_prefix};
+pub use rate_limit::RateLimit;
 pub use secret::{Secret, read_secret};

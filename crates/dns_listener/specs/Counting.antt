@@ -28,7 +28,11 @@ other_lines n =
     ++ codes "responses " ++ decimal n.dropped ++ codes " dropped\n"
     ++ codes "transfers " ++ decimal n.begun ++ codes " begun, " ++ decimal n.refused ++ codes " refused\n"
 
+-- the line of replies that were limited
+abbrev pub limited_line : Numbers → List ℕ
+limited_line n = codes "limited replies " ++ decimal n.truncated ++ codes " truncated, " ++ decimal n.limited ++ codes " not sent\n"
+
 -- a text says numbers
 abbrev pub Reports : List ℕ → Type 0
 Reports text =
-    (n : Numbers) × (map code_of n.replies ≡ code_names) × (text ≡ reply_lines n.replies ++ other_lines n)
+    (n : Numbers) × (map code_of n.replies ≡ code_names) × (text ≡ reply_lines n.replies ++ (other_lines n ++ limited_line n))

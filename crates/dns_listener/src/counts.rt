@@ -2,10 +2,11 @@
 
 ghost use Rattle.std.specs.Prelude.{◌≡◌, ◌++◌, IfOk, OnOk, map, string_bytes};
 ghost use Rattle.std.specs.Arc.{arc_value};
-ghost use Rattle.dns_listener.specs.Counting.{Reports, code_names, code_of, other_lines, reply_line, reply_lines};
+ghost use Rattle.dns_listener.specs.Counting.{Reports, code_names, code_of, limited_line, other_lines, reply_line, reply_lines};
 
 use crate::layers::Tally;
 use dns_base::Rcode;
+use dns_limited_sock::{LimitNote, Limiting};
 use dns_name::OutOfMemory;
 use dns_query_sock::QueryCounts;
 use dns_reply_counts::ReplyCounts;
@@ -19,12 +20,13 @@ use std::sync::{Arc, Wait};
 /// How many notes of transfers are logged at a time.
 const MOST_NOTES: usize = 256;
 
-/// What counts replies, connections, dropped responses and transfers, at all listeners.
+/// What counts replies, connections, dropped responses and transfers, and what limits replies, at all listeners.
 #[derive(Drop)]
 pub struct Counters {
     replies: Arc<ReplyCounts>,
     queries: Arc<QueryCounts>,
     notes: Arc<TransferNotes>,
+    limiting: Arc<Limiting>,
 }
 
 /// How many replies had a response code, over each transport.
@@ -48,6 +50,10 @@ pub struct Numbers {
     pub begun: u64,
     /// Transfers that were refused.
     pub refused: u64,
+    /// Replies over UDP that were sent truncated, as too many went to their network.
+    pub truncated: u64,
+    /// Replies over UDP that weren't sent for that.
+    pub limited: u64,
 }
 
 /// How many replies had a response code, which has this name.
@@ -131,6 +137,21 @@ fn push_others(text: &mut String, numbers: &Numbers) -> Result<(), AllocError>
     writeln!(text, "transfers {begun} begun, {refused} refused")
 }
 
+/// Appends the line of replies that were limited.
+fn push_limited(text: &mut String, numbers: &Numbers) -> Result<(), AllocError>
+    ensures { OnOk result (string_bytes text.new ≡ string_bytes text.old ++ limited_line numbers.now) }
+{
+    let Numbers {
+        truncated,
+        limited,
+        ..
+    } = *numbers;
+    writeln!(
+        text,
+        "limited replies {truncated} truncated, {limited} not sent"
+    )
+}
+
 /// Logs what became of a question for a transfer, or that a NOTIFY or an SOA query was refused.
 fn log_note<R: Log>(rt: &R, note: &TransferNote) {
     let client = SocketAddrText(note.client);
@@ -152,13 +173,21 @@ fn log_note<R: Log>(rt: &R, note: &TransferNote) {
     }
 }
 
+/// Logs that replies to a network are limited.
+fn log_limit<R: Log>(rt: &R, note: &LimitNote) {
+    let network = note.address;
+    let bits = note.bits;
+    warn!(rt; "replies to {network}/{bits} are limited");
+}
+
 impl Counters {
-    /// Nothing was counted yet.
+    /// Nothing was counted yet, and nothing is limited.
     pub fn new(alloc: Global) -> Result<Counters, OutOfMemory> {
         Ok(Counters {
             replies: Arc::new(alloc, ReplyCounts::new(alloc)?)?,
             queries: Arc::new(alloc, QueryCounts::new())?,
             notes: Arc::new(alloc, TransferNotes::new(alloc)?)?,
+            limiting: Arc::new(alloc, Limiting::new(alloc)?)?,
         })
     }
 
@@ -167,6 +196,13 @@ impl Counters {
         ensures { result.now ≡ self.now.queries }
     {
         &self.queries
+    }
+
+    /// What limits replies at the sockets.
+    pub fn limiting(&self) -> &Arc<Limiting>
+        ensures { result.now ≡ self.now.limiting }
+    {
+        &self.limiting
     }
 
     /// What counts the replies of a listener.
@@ -190,16 +226,29 @@ impl Counters {
         }
     }
 
+    /// Logs the networks whose replies are limited, as they were noted since.
+    pub fn log_limits<R: Wait + Log>(&self, rt: &R) {
+        for _ in 0..MOST_NOTES {
+            match self.limiting.next(rt) {
+                Some(note) => log_limit(rt, &note),
+                None => return,
+            }
+        }
+    }
+
     /// What was counted so far.
     pub fn numbers(&self) -> Numbers
         ensures { map code_of result.replies ≡ code_names }
     {
+        let limits = self.limiting.numbers();
         Numbers {
             replies: all_replies(&self.replies),
             connections: self.queries.connections(),
             dropped: self.queries.dropped(),
             begun: self.notes.begun(),
             refused: self.notes.refused(),
+            truncated: limits.truncated,
+            limited: limits.dropped,
         }
     }
 
@@ -211,6 +260,7 @@ impl Counters {
         let mut text = String::new(alloc);
         push_replies(&mut text, &numbers.replies)?;
         push_others(&mut text, &numbers)?;
+        push_limited(&mut text, &numbers)?;
         Ok(text)
     }
 }

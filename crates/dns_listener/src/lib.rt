@@ -8,7 +8,8 @@
 //!   `has_ended` says whether one has ended by itself, and `close_all` shuts them down. `take_back` gives the listeners back,
 //!   whose sockets stay open for what is served next.
 //! - `Counters` are what is counted at all listeners: `numbers` gives the counts of a moment, and `report` says them in lines.
-//!   `log_transfers` logs what was noted of transfers.
+//!   `log_transfers` logs what was noted of transfers, and `log_limits` the networks whose replies are limited. `limiting` is what
+//!   limits them, which is off at first.
 //!
 //! ```text
 //! bind_all -> Running::start for each -> close_all -> take_back -> Running::start ..
@@ -17,7 +18,7 @@
 //! The layers stand so, from outside: counts; notes of transfers; at most 512 octets over UDP without EDNS; TSIG (RFC 8945); the
 //! keys that transfers and NOTIFYs want; the server's own OPT record; its identifier; server cookies; the four layers of
 //! dns_middleware; zones without data, twice; the authority. Those outside of TSIG leave replies as they are, so that a TSIG
-//! ends each reply.
+//! ends each reply. Over UDP replies are limited behind all of them, at the sockets.
 //!
 //! # What is proved
 //!

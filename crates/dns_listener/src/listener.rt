@@ -1,21 +1,26 @@
 //! The sockets of an address.
 
+use crate::counts::Counters;
 use anyhow::Context;
 use dns_config::Config;
+use dns_limited_sock::LimitedSock;
 use dns_name::{IpAddr, OutOfMemory, SocketAddr};
 use dns_outside::{HostClock, MioAccept, MioSock};
 use dns_query_link::QueryAccept;
-use dns_query_sock::{QueryCounts, QuerySock};
+use dns_query_sock::QuerySock;
 use dns_socket_addr::SocketAddrText;
 use dns_workers::{Silent, Worker};
 use std::alloc::Global;
 use std::net::Net;
 use std::rt::Clock;
-use std::sync::Arc;
+use std::sync::{Arc, Wait};
 use std::thread::{Threads, available_parallelism};
 
-/// What serves the datagrams of a socket. Responses are dropped.
-pub(crate) type DgramWorker<R> = Worker<QuerySock<MioSock>, HostClock<R>, Silent>;
+/// The socket of a worker. Responses that come are dropped, and replies that go are limited.
+type WorkerSock<R> = LimitedSock<QuerySock<MioSock>, HostClock<R>, R>;
+
+/// What serves the datagrams of a socket.
+pub(crate) type DgramWorker<R> = Worker<WorkerSock<R>, HostClock<R>, Silent>;
 
 /// What the connections of one address come from, and what serve its datagrams. Responses are dropped.
 #[derive(Drop)]
@@ -26,13 +31,16 @@ pub struct Listener<R> {
 }
 
 /// A worker that serves the datagrams of a socket.
-fn worker<R: Clock + Copy>(
+fn worker<R: Clock + Wait + Copy>(
     rt: R,
+    alloc: Global,
     sock: MioSock,
-    counts: &Arc<QueryCounts>,
+    counters: &Counters,
 ) -> Result<DgramWorker<R>, OutOfMemory> {
-    let counts = Arc::try_clone(counts)?;
+    let counts = Arc::try_clone(counters.queries())?;
+    let limiting = Arc::try_clone(counters.limiting())?;
     let sock = QuerySock::counted(sock, counts);
+    let sock = LimitedSock::new(rt, alloc, sock, HostClock::new(rt), limiting);
     Ok(Worker::new(sock, HostClock::new(rt), Silent::new()))
 }
 
@@ -56,17 +64,17 @@ fn bind_sock<N: Net>(net: &N, address: SocketAddr, wanted: usize) -> anyhow::Res
 }
 
 /// The workers at an address, each with a socket of its own.
-fn bind_workers<R: Net + Clock + Copy>(
+fn bind_workers<R: Net + Clock + Wait + Copy>(
     rt: R,
     alloc: Global,
     address: SocketAddr,
     wanted: usize,
-    counts: &Arc<QueryCounts>,
+    counters: &Counters,
 ) -> anyhow::Result<Vec<DgramWorker<R>>> {
     let mut workers = Vec::new(alloc);
     for _ in 0..wanted {
         let sock = bind_sock(&rt, address, wanted)?;
-        workers.push(worker(rt, sock, counts)?)?;
+        workers.push(worker(rt, alloc, sock, counters)?)?;
     }
     Ok(workers)
 }
@@ -82,7 +90,7 @@ fn bind_accept<N: Net>(net: &N, wanted: SocketAddr) -> anyhow::Result<(MioAccept
     Ok((accept, SocketAddr { ip, port }))
 }
 
-impl<R: Net + Clock + Copy> Listener<R> {
+impl<R: Net + Clock + Wait + Copy> Listener<R> {
     /// Opens the sockets of an address, the one of connections first, since it is refused if another server has the address. At
     /// port 0 the system picks the port of all.
     pub(crate) fn bind(
@@ -90,12 +98,12 @@ impl<R: Net + Clock + Copy> Listener<R> {
         alloc: Global,
         wanted: SocketAddr,
         workers: usize,
-        counts: &Arc<QueryCounts>,
+        counters: &Counters,
     ) -> anyhow::Result<Listener<R>> {
         let (accept, address) = bind_accept(&rt, wanted)?;
         let workers = shared_by(address, workers);
-        let workers = bind_workers(rt, alloc, address, workers, counts)?;
-        let accept = QueryAccept::new(alloc, accept, Arc::try_clone(counts)?);
+        let workers = bind_workers(rt, alloc, address, workers, counters)?;
+        let accept = QueryAccept::new(alloc, accept, Arc::try_clone(counters.queries())?);
         Ok(Listener {
             address,
             accept,
@@ -112,18 +120,18 @@ fn processors<R: Threads>(rt: &R) -> usize {
     }
 }
 
-/// Opens the sockets of each address.
-pub fn bind_all<R: Net + Clock + Threads + Copy>(
+/// Opens the sockets of each address, at which these count.
+pub fn bind_all<R: Net + Clock + Threads + Wait + Copy>(
     rt: R,
     alloc: Global,
     config: &Config,
-    counts: &Arc<QueryCounts>,
+    counters: &Counters,
 ) -> anyhow::Result<Vec<Listener<R>>> {
     let workers = config.workers(processors(&rt));
     let mut listeners = Vec::new(alloc);
     for endpoint in config.listen.iter() {
         let address = endpoint.address;
-        let listener = Listener::bind(rt, alloc, address, workers, counts)?;
+        let listener = Listener::bind(rt, alloc, address, workers, counters)?;
         listeners.push(listener)?;
     }
     Ok(listeners)

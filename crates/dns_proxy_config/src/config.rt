@@ -79,6 +79,7 @@ fn server_of(
         limits: limits.of_clients(),
         timeouts: limits.times_of_clients(),
         cookies,
+        rate_limit: None,
         key: Vec::new(alloc),
         zone: Vec::new(alloc),
     }

@@ -99,6 +99,19 @@ fn transfers(alloc: Global, numbers: &Numbers) -> Result<Family, MetricError> {
     Ok(family)
 }
 
+/// The replies that were limited.
+fn limited(alloc: Global, numbers: &Numbers) -> Result<Family, MetricError> {
+    let help = "Replies over UDP that were limited, by what became of them.";
+    let name = "zoned_limited_replies_total";
+    let mut family = Family::new(alloc, name, help, MetricKind::Counter)?;
+    family.add(
+        labels(alloc, &[("outcome", "truncated")])?,
+        numbers.truncated,
+    )?;
+    family.add(labels(alloc, &[("outcome", "dropped")])?, numbers.limited)?;
+    Ok(family)
+}
+
 /// What was counted.
 fn counted(alloc: Global, numbers: &Numbers) -> Result<Vec<Family>, MetricError> {
     let mut families = Vec::new(alloc);
@@ -119,6 +132,7 @@ fn counted(alloc: Global, numbers: &Numbers) -> Result<Vec<Family>, MetricError>
         families.push(single(alloc, name, help, MetricKind::Counter, value)?)?;
     }
     families.push(transfers(alloc, numbers)?)?;
+    families.push(limited(alloc, numbers)?)?;
     Ok(families)
 }
 

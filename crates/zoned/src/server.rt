@@ -6,6 +6,7 @@ use crate::served_config::ServedConfig;
 use anyhow::Context;
 use dns_config::Config;
 use dns_control::{Caller, Control};
+use dns_limited_sock::LimitSettings;
 use dns_listener::{
     Counters, Listener, Offer, Running, Started, bind_all, close_all, has_ended, say_listeners,
     take_back,
@@ -17,6 +18,7 @@ use dns_socket_addr::{SocketAddrText, to_std};
 use dns_zone_copies::{Copies, CopiesTarget};
 use log::{Log, error, info};
 use std::alloc::{AllocError, Global};
+use std::hash::RandomState;
 use std::net::Net;
 use std::random::RandomSource;
 use std::rt::{Clock, Files};
@@ -62,6 +64,8 @@ struct Server {
     is_stale: bool,
     /// When they are to be read again then.
     again: u64,
+    /// Whether another configuration was read since limits were set.
+    is_reread: bool,
     copies: Copies,
     notifier: Notifier,
     counters: Arc<Counters>,
@@ -105,6 +109,7 @@ impl Server {
             served,
             is_stale: false,
             again: 0,
+            is_reread: true,
             copies,
             notifier: Notifier::new(alloc),
             counters,
@@ -145,7 +150,7 @@ impl Server {
         rt: &HostRuntime,
     ) -> anyhow::Result<Vec<Listener<R>>> {
         let alloc = rt.alloc();
-        let listeners = bind_all(machine, alloc, &self.served.config, self.counters.queries())?;
+        let listeners = bind_all(machine, alloc, &self.served.config, &self.counters)?;
         self.control = open_control(&machine, alloc, &self.served.config)?;
         self.follow_copies(rt)?;
         let metrics = match self.served.config.metrics {
@@ -279,6 +284,7 @@ impl Server {
         rt: &HostRuntime,
     ) {
         self.counters.log_transfers(machine);
+        self.counters.log_limits(machine);
         self.obey_next(rt);
         if self.phase != Phase::Serving {
             return;
@@ -323,6 +329,28 @@ impl Server {
         thread::sleep(machine, Duration::from_millis(PAUSE_MILLIS));
     }
 
+    /// Goes on to the limits of the configuration, if another one was read. The tables begin anew then.
+    fn follow_limits<R: RandomSource + Wait>(
+        &mut self,
+        machine: &R,
+        alloc: Global,
+    ) -> anyhow::Result<()> {
+        if !self.is_reread {
+            return Ok(());
+        }
+        let served = &self.served;
+        let settings = match &served.config.rate_limit {
+            Some(limit) => Some(LimitSettings::of(alloc, limit, served.settings.cookies)?),
+            None => None,
+        };
+        let seed = RandomState::new(machine)?;
+        self.counters
+            .limiting()
+            .follow(machine, alloc, settings, seed)?;
+        self.is_reread = false;
+        Ok(())
+    }
+
     /// Announces the serials that are served.
     fn tell(&mut self, alloc: Global) -> anyhow::Result<()> {
         let served = &self.served;
@@ -355,6 +383,9 @@ impl Server {
         log_signed(rt, &served.config, served.zones.summaries.as_slice());
         self.phase = Phase::Serving;
         self.show(&machine, rt.alloc())?;
+        if let Err(fault) = self.follow_limits(&machine, rt.alloc()) {
+            error!(rt; "rate-limit: {fault:#}");
+        }
         if let Err(fault) = self.tell(rt.alloc()) {
             error!(rt; "NOTIFY: {fault:#}");
         }

@@ -56,6 +56,7 @@ impl Server {
     fn reload(&mut self, rt: &HostRuntime, caller: &mut Caller) -> anyhow::Result<()> {
         match self.following(rt) {
             Ok(served) => {
+                self.is_reread = true;
                 self.go_on(rt, served)?;
                 caller.say("ok\n")?;
                 self.say_zones(rt.alloc(), caller)
