@@ -44,10 +44,11 @@ fn push_digits(row: &mut Row<'_>, owner: &mut Vec<u8>, octets: [u8; 5]) {
 /// The owner of the NSEC3 of a hash (RFC 5155, section 3).
 fn owner_of(row: &mut Row<'_>, hash: &[u8; 20]) -> Vec<u8> {
     let mut owner = row.copied(&[32]);
-    let mut left: &[u8] = hash;
-    while let [a, b, c, d, e, others @ ..] = left {
-        push_digits(row, &mut owner, [*a, *b, *c, *d, *e]);
-        left = others;
+    for octets in hash.chunks(5) {
+        match octets {
+            [a, b, c, d, e] => push_digits(row, &mut owner, [*a, *b, *c, *d, *e]),
+            _ => row.fail(RowError::OutOfForm),
+        }
     }
     row.keep(owner.extend_from_slice(&APEX));
     owner
@@ -114,16 +115,15 @@ fn push_chain(row: &mut Row<'_>, records: &mut Vec<Record>, hashes: &[[u8; 20]],
     requires { AreLawful records.old.items }
     ensures { AreLawful records.new.items }
 {
-    let mut left = hashes;
-    'each: while let [hash, others @ ..] = left {
+    'each: for (place, hash) in hashes.iter().enumerate() {
         let types: &[u8] = if hash == apex {
             &APEX_TYPES
         } else {
             &NAME_TYPES
         };
-        let next = others.first().or(hashes.first()).unwrap_or(apex);
+        let behind = hashes.get(place.saturating_add(1));
+        let next = behind.or(hashes.first()).unwrap_or(apex);
         push_nsec3(row, records, hash, next, types);
-        left = others;
     }
 }
 
