@@ -2,3 +2,4 @@ pub mod Access
 pub mod Layer
 pub mod Laws
 pub mod Rules
+pub mod Replies

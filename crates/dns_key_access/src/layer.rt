@@ -9,21 +9,13 @@ ghost use Rattle.dns_signing.specs.ErrorResponse.{error_response};
 ghost use Rattle.dns_key_access.specs.Layer.{access_answer, access_hint, without_key};
 
 use crate::access::KeyAccess;
+use crate::replies::{AccessFuture, AccessStream};
 use dns_base::OptRcode;
-use dns_layers::{of_inner, of_own};
-use dns_service::{Now, Once, OutOfMemory, ReplyFuture, Request, Service};
+use dns_layers::alone;
+use dns_service::{Now, OutOfMemory, ReplyFuture, Request, Service};
 use dns_signing::error_response;
-use dns_stream::MiddlewareStream;
 use std::alloc::Global;
 use std::sync::Arc;
-
-/// The stream of the layer: the inner replies, or the reply that refuses the request.
-pub type AccessStream<S> = MiddlewareStream<
-    <S as Service<()>>::Future,
-    <S as Service<()>>::Stream,
-    Once,
-    Once,
->;
 
 /// A service round one whose requests have no metadata. Its own have the place of the key that they were verified under, or none.
 /// A transfer and a NOTIFY that no rule permits are refused here.
@@ -43,9 +35,9 @@ impl<S: Service<()>> KeyAccessSvc<S> {
 }
 
 impl<S: Service<()>> Service<Option<usize>> for KeyAccessSvc<S> {
-    type Stream = AccessStream<S>;
+    type Stream = AccessStream<S::Stream>;
 
-    type Future = Now<AccessStream<S>>;
+    type Future = AccessFuture<S::Future>;
 
     ghost answer = { λ s. access_answer (S.answer s.next) (arc_value s.access) };
 
@@ -57,7 +49,7 @@ impl<S: Service<()>> Service<Option<usize>> for KeyAccessSvc<S> {
         &self,
         alloc: Global,
         request: &mut Request<Option<usize>>,
-    ) -> Result<Now<AccessStream<S>>, OutOfMemory> {
+    ) -> Result<AccessFuture<S::Future>, OutOfMemory> {
         match self.access.refusal(request) {
             Some(code) => refuse::<S>(alloc, request, code),
             None => pass(alloc, &self.next, request),
@@ -70,11 +62,11 @@ fn refuse<S: Service<()>>(
     alloc: Global,
     request: &Request<Option<usize>>,
     code: OptRcode,
-) -> Result<Now<AccessStream<S>>, OutOfMemory>
-    ensures { AnswersAs ⟦<Now<AccessStream<S>> as ReplyFuture>⟧.answer (own_reply (error_response request.now.octets code)) result }
+) -> Result<AccessFuture<S::Future>, OutOfMemory>
+    ensures { AnswersAs ⟦<AccessFuture<S::Future> as ReplyFuture>⟧.answer (own_reply (error_response request.now.octets code)) result }
 {
     let reply = error_response(alloc, request.message(), code)?;
-    Ok(of_own::<S, (), Once>(reply))
+    Ok(AccessFuture::Own(Now::new(alone(reply))))
 }
 
 /// The inner replies to a request, without its key.
@@ -83,9 +75,9 @@ fn pass<S: Service<()>>(
     alloc: Global,
     next: &S,
     request: &mut Request<Option<usize>>,
-) -> Result<Now<AccessStream<S>>, OutOfMemory>
+) -> Result<AccessFuture<S::Future>, OutOfMemory>
     requires { S.can_call next.now }
-    ensures answers { AnswersAs ⟦<Now<AccessStream<S>> as ReplyFuture>⟧.answer (S.answer next.now (without_key request.old)) result }
+    ensures answers { AnswersAs ⟦<AccessFuture<S::Future> as ReplyFuture>⟧.answer (S.answer next.now (without_key request.old)) result }
     ensures kept { LeavesHint (S.hint next.now (without_key request.old)) request.old request.new result }
     ensures refused { OnErr result (request.new ≡ request.old) }
 {
@@ -95,7 +87,7 @@ fn pass<S: Service<()>>(
     match next.call(alloc, &mut inner) {
         Ok(future) => {
             leave_hint(request, inner.transport_ctx().hint());
-            Ok(of_inner::<S, (), Once, Once>(future))
+            Ok(AccessFuture::Passing(future))
         }
         Err(error) => Err(error),
     }

@@ -6,6 +6,7 @@
 //!   zone of its configuration, and `wants_key` says whether a key is wanted at all. `RuleError` says which rule isn't made.
 //! - `KeyAccessSvc` is a layer round a service. Its requests have the place of the key that they were verified under as their
 //!   metadata, as TsigMiddlewareSvc of dns_signing passes it on. Those of the service inside have none.
+//!   `AccessFuture` and `AccessStream` are its replies.
 //!
 //! ```text
 //! request, key -> AXFR, IXFR of a zone with rules: no rule permits address and key ? REFUSED : inside
@@ -33,11 +34,13 @@
 mod access;
 mod laws;
 mod layer;
+mod replies;
 mod rule_error;
 mod rules;
 
 pub use access::{Access, KeyAccess, ZoneAccess};
 pub use laws::{wanted_keys_are_judged, without_rules_all_is_as_before};
-pub use layer::{AccessStream, KeyAccessSvc};
+pub use layer::KeyAccessSvc;
+pub use replies::{AccessFuture, AccessStream};
 pub use rule_error::RuleError;
 pub use rules::{peer_access, wants_key, zone_access};
