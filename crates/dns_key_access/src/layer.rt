@@ -11,8 +11,7 @@ ghost use Rattle.dns_key_access.specs.Layer.{access_answer, access_hint, without
 use crate::access::KeyAccess;
 use crate::replies::{AccessFuture, AccessStream};
 use dns_base::OptRcode;
-use dns_layers::alone;
-use dns_service::{Now, OutOfMemory, ReplyFuture, Request, Service};
+use dns_service::{OutOfMemory, ReplyFuture, Request, Service};
 use dns_signing::error_response;
 use std::alloc::Global;
 use std::sync::Arc;
@@ -66,7 +65,7 @@ fn refuse<S: Service<()>>(
     ensures { AnswersAs ⟦<AccessFuture<S::Future> as ReplyFuture>⟧.answer (own_reply (error_response request.now.octets code)) result }
 {
     let reply = error_response(alloc, request.message(), code)?;
-    Ok(AccessFuture::Own(Now::new(alone(reply))))
+    Ok(AccessFuture::of_reply(reply))
 }
 
 /// The inner replies to a request, without its key.

@@ -1,8 +1,11 @@
 //! The replies of a service behind keys that are wanted.
 
-ghost use Rattle.std.specs.Prelude.{◌≡◌};
+ghost use Rattle.std.specs.Prelude.{◌≡◌, ℕ};
+ghost use Rattle.dns_layers.specs.Rewritten.{own_reply};
 ghost use Rattle.dns_key_access.specs.Replies.{coming_answer, replies_answer, replies_size};
 
+use dns_base::AdditionalBuilder;
+use dns_layers::alone;
 use dns_service::{Now, Once, OutOfMemory, Polled, ReplyFuture, ReplyStream, ServiceResult};
 use std::alloc::Global;
 
@@ -22,6 +25,15 @@ pub enum AccessStream<S> {
     Own(Once),
     /// The replies of the service inside.
     Passed(S),
+}
+
+impl<F: ReplyFuture> AccessFuture<F> {
+    /// The reply that refuses a request, at once.
+    pub(crate) fn of_reply(reply: AdditionalBuilder) -> Self
+        ensures { (k : ℕ) → ⟦<AccessFuture<F> as ReplyFuture>⟧.answer result k ≡ own_reply reply.message k }
+    {
+        AccessFuture::Own(Now::new(alone(reply)))
+    }
 }
 
 impl<F: ReplyFuture> ReplyFuture for AccessFuture<F> {
