@@ -19,6 +19,12 @@ module _ (same : IpAddr → IpAddr → Bool) (same_client : ZoneClient → ZoneC
   tables_behind None address kind second = None
   tables_behind (Some l) address kind second = Some (behind_judged same same_client l address false kind second)
 
+-- a verdict is what some tables say of a reply: no clause names those that stood under a lock
+pub record IsJudged (same : IpAddr → IpAddr → Bool) (same_client : ZoneClient → ZoneClient → Bool) (address : IpAddr) (kind : Kind)
+    (second : ℕ) (v : Verdict) : Type 0 where
+  pub tables : Option LimitsState
+  pub said : v ≡ verdict_by same same_client tables address kind second
+
 -- the tables of settings, which are empty
 abbrev pub limits_of : Settings → LimitsState
 limits_of s =

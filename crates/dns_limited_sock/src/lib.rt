@@ -32,8 +32,9 @@
 //!
 //! # What a body could still get away with
 //!
-//! No clause says that a lock keeps what was put under it, so none says of two replies how they follow each other, nor that what is on is
-//! what was set. Without memory a reply isn't limited; one that is to be truncated isn't sent then.
+//! No clause names what stands under a lock. So a verdict is what some tables say of this client, kind and second (`IsJudged`). That
+//! they are the server's, and how two replies follow each other, no clause says, nor that what is on is what was set. Without memory a
+//! reply isn't limited; one that is to be truncated isn't sent then.
 #![tactic(auto)]
 
 mod cookie;

@@ -1,14 +1,15 @@
 //! What the sockets of a server share.
 
-ghost use Rattle.std.specs.Prelude.{◌≡◌, true};
+ghost use Rattle.std.specs.Prelude.{◌≡◌, true, IfOk};
 ghost use Rattle.dns_rate_limit.specs.declared.rate.Verdict.TheVariants.{Whole};
+ghost use Rattle.dns_limited_sock.specs.Judging.{IsJudged};
 
 use crate::noted::LimitNote;
 use crate::settings::LimitSettings;
 use crate::tables::Tables;
 use crossbeam_queue::ArrayQueue;
 use dns_name::{IpAddr, OutOfMemory};
-use dns_rate_limit::{Kind, Verdict};
+use dns_rate_limit::{Kind, Verdict, ZoneClient};
 use std::alloc::Global;
 use std::hash::RandomState;
 use std::sync::atomic::{AtomicBool, AtomicU64, Ordering};
@@ -92,9 +93,12 @@ impl Limiting {
         client: IpAddr,
         kind: &Kind<'_>,
         second: u64,
-    ) -> Result<(Verdict, Option<LimitNote>), OutOfMemory> {
+    ) -> Result<(Verdict, Option<LimitNote>), OutOfMemory>
+        ensures { IfOk result (λ r. IsJudged (⟦<IpAddr as PartialEq>⟧.eq) (⟦<ZoneClient as PartialEq>⟧.eq) client kind.now second r.0) }
+    {
         let mut tables = self.tables.lock(rt);
-        tables.ask(alloc, client, kind, second)
+        let (verdict, note) = tables.ask(alloc, client, kind, second)?;
+        Ok((verdict, note))
     }
 
     /// What is done with a reply to a client at a second, which is counted. One to a request with a good cookie isn't limited, and one
@@ -108,7 +112,8 @@ impl Limiting {
         kind: &Kind<'_>,
         second: u64,
     ) -> Verdict
-        ensures { has_cookie ≡ true → result ≡ Whole }
+        ensures good { has_cookie ≡ true → result ≡ Whole }
+        ensures judged { IsJudged (⟦<IpAddr as PartialEq>⟧.eq) (⟦<ZoneClient as PartialEq>⟧.eq) client kind.now second result }
     {
         if has_cookie {
             return Verdict::Whole;
