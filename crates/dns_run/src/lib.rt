@@ -41,9 +41,9 @@ pub use dns_flood::{
     Ask, CachedRules, Counts, NoEvent, NotifyRule, NotifyRules, Rule, RuleList, Rules, Script,
     ScriptAnswer, ScriptAnswers, ScriptError, ScriptFuture, ScriptLine, ScriptReply, ScriptService,
     ScriptStream, ScriptTarget, ScriptTurns, ScriptVerdict, Scripted, ServiceLines, UpstreamLine,
-    UpstreamWord, Upstreams, WriteError, count_flood, event_at, layered, next_event, next_number,
-    push_line, read_script, refusal, script_text, serve_script, summary, write_outputs,
-    write_refusal,
+    UpstreamWord, Upstreams, WriteError, count_flood, event_at, layered, line, next_event,
+    next_number, push_line, read_script, refusal, script_text, serve_script, summary,
+    write_outputs, write_refusal,
 };
 pub use program::run;
 pub use serve_words::{ServeWords, read_serve};

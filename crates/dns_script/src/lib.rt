@@ -55,7 +55,7 @@ pub use ask::Ask;
 pub use cached_rules::CachedRules;
 pub use laws::{a_script_reads_back, a_trace_is_a_script};
 pub use notify_rule::{NotifyRule, NotifyRules};
-pub use output_line::{push_line, refusal};
+pub use output_line::{line, push_line, refusal};
 pub use reader::read_script;
 pub use rule::{Rule, Rules, ScriptAnswer, ScriptAnswers, ScriptReply};
 pub use rule_list::RuleList;

@@ -58,6 +58,43 @@ fn push_octets(
     text.end_line()
 }
 
+/// The line of an output, with its LF, as a text of its own. `push_line` appends the line to a text.
+#[tactic(auto, unfolding(crate::specs::Line::line_of))]
+pub fn line(alloc: Global, output: &Output) -> Result<String, OutOfMemory>
+    ensures { IfOk result (λ t. string_bytes t ≡ line_of output.now) }
+{
+    match output {
+        Output::Datagram { client, octets } => octets_line(alloc, "datagram", *client, octets),
+        Output::Frame { client, octets } => octets_line(alloc, "frame", *client, octets),
+        Output::Closed { client, why } => word_line(alloc, "closed", *client, why_text(*why)),
+        Output::TurnedAway { client, accepted } => {
+            let answer = if *accepted { "yes" } else { "no" };
+            word_line(alloc, "turned", *client, answer)
+        }
+    }
+}
+
+/// A line of a word, a number and a word.
+fn word_line(alloc: Global, first: &str, number: u64, last: &str) -> Result<String, OutOfMemory>
+    ensures { IfOk result (λ t. string_bytes t ≡ first.now ++ (codes " " ++ (decimal number ++ (codes " " ++ (last.now ++ codes "\n"))))) }
+{
+    Ok(format!(in alloc; "{first} {number} {last}\n")?)
+}
+
+/// A line of a word, a number and octets, which are written as two hexadecimal digits each, in lower case.
+fn octets_line(
+    alloc: Global,
+    first: &str,
+    number: u64,
+    octets: &Octets,
+) -> Result<String, OutOfMemory>
+    ensures { IfOk result (λ t. string_bytes t
+        ≡ first.now ++ (codes " " ++ (decimal number ++ (codes " " ++ (encode_lower octets.now ++ codes "\n"))))) }
+{
+    let digits = hex::encode(alloc, octets.as_slice())?;
+    word_line(alloc, first, number, digits.as_str())
+}
+
 fn why_text(why: Why) -> &'static str
     ensures { result.now ≡ why_word why }
 {
@@ -92,6 +129,5 @@ fn reason_text(reason: Reason) -> &'static str
 pub fn refusal(alloc: Global, number: u64, reason: Reason) -> Result<String, OutOfMemory>
     ensures { IfOk result (λ t. string_bytes t ≡ refused_line number reason) }
 {
-    let word = reason_text(reason);
-    Ok(format!(in alloc; "refused {number} {word}\n")?)
+    word_line(alloc, "refused", number, reason_text(reason))
 }

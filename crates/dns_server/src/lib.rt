@@ -42,9 +42,9 @@ pub use dns_run::{
     Script, ScriptAnswer, ScriptAnswers, ScriptError, ScriptFuture, ScriptLine, ScriptReply,
     ScriptService, ScriptStream, ScriptTarget, ScriptTurns, ScriptVerdict, Scripted, ServePlan,
     ServeWords, ServiceLines, Status, UpstreamLine, UpstreamWord, Upstreams, WriteError,
-    count_flood, event_at, next_event, next_number, push_line, read_command, read_script,
-    read_serve, read_whole, refusal, run, script_text, serve_plan, serve_script, summary,
-    write_outputs, write_refusal,
+    count_flood, event_at, line, next_event, next_number, read_command, read_script, read_serve,
+    read_whole, refusal, run, script_text, serve_plan, serve_script, summary, write_outputs,
+    write_refusal,
 };
 pub use dns_service::WithoutMeta;
 pub use dns_transport::{
