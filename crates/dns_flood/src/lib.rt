@@ -36,7 +36,7 @@ pub use dns_script::{
     Ask, CachedRules, NoEvent, NotifyRule, NotifyRules, Rule, RuleList, Rules, Script,
     ScriptAnswer, ScriptAnswers, ScriptError, ScriptFuture, ScriptLine, ScriptReply, ScriptService,
     ScriptStream, ScriptTarget, ScriptTurns, ScriptVerdict, Scripted, ServiceLines, UpstreamLine,
-    UpstreamWord, Upstreams, line, read_script, refusal, script_text, serve_script,
+    UpstreamWord, Upstreams, line, push_line, read_script, refusal, script_text, serve_script,
 };
 pub use flood::{count_flood, write_flood};
 pub use generator::{event_at, next_event, next_number};

@@ -8,9 +8,9 @@ ghost use Rattle.dns_flood.specs.Writes.{Wrote, WroteFaults, Pours};
 
 use dns_io::{Sink, WriteFault, write_all};
 use dns_name::OutOfMemory;
-use dns_script::{line, refusal};
+use dns_script::{push_line, refusal};
 use dns_service::Output;
-use dns_trace::Reason;
+use dns_trace::{Reason, TextWriter};
 use std::alloc::Global;
 
 /// Why a text was not written whole.
@@ -46,14 +46,14 @@ const BATCH: usize = 65_536;
 
 /// Writes the lines that are kept back, once they are many. After an error a front of them was written.
 #[tactic(auto, using(crate::proofs::Batches::kept, crate::proofs::Batches::poured))]
-pub fn pour<W: Sink>(sink: &mut W, text: &mut Vec<u8>) -> Result<(), WriteFault>
+pub fn pour<W: Sink>(sink: &mut W, text: &mut TextWriter) -> Result<(), WriteFault>
     ensures observed { Observed (W.tells sink.new) (W.tells sink.old)
-        (Pours result text.old.items text.new.items (W.taken sink.old) (W.taken sink.new)) }
+        (Pours result text.old text.new (W.taken sink.old) (W.taken sink.new)) }
     ensures later { W.faults sink.old ≤ W.faults sink.new }
     ensures cause { WroteAllCause result (W.faults sink.old) (W.faults sink.new) }
-    ensures err { OnErr result (text.new.items ≡ text.old.items) }
+    ensures err { OnErr result (text.new ≡ text.old) }
 {
-    if text.len() < BATCH {
+    if text.as_slice().len() < BATCH {
         return Ok(());
     }
     match write_all(sink, text.as_slice()) {
@@ -65,29 +65,19 @@ pub fn pour<W: Sink>(sink: &mut W, text: &mut Vec<u8>) -> Result<(), WriteFault>
     }
 }
 
-/// Keeps the line of an output back, after others.
-fn keep(alloc: Global, text: &mut Vec<u8>, output: &Output) -> Result<(), OutOfMemory>
-    ensures { OnOk result (text.new.items ≡ text.old.items ++ line_of output.now) }
-{
-    let more = line(alloc, output)?;
-    text.extend_from_slice(more.as_bytes())?;
-    Ok(())
-}
-
 /// Keeps the line of an output back, and writes the lines that are kept back, once they are many.
 #[tactic(auto, using(crate::proofs::Batches::nothing_written, crate::proofs::Batches::poured_line))]
 fn write_line<W: Sink>(
-    alloc: Global,
     sink: &mut W,
-    text: &mut Vec<u8>,
+    text: &mut TextWriter,
     output: &Output,
 ) -> Result<(), WriteError>
     ensures observed { Observed (W.tells sink.new) (W.tells sink.old)
-        (Pours result (text.old.items ++ line_of output.now) text.new.items (W.taken sink.old) (W.taken sink.new)) }
+        (Pours result (text.old ++ line_of output.now) text.new (W.taken sink.old) (W.taken sink.new)) }
     ensures later { W.faults sink.old ≤ W.faults sink.new }
     ensures cause { WroteFaults result (W.faults sink.old) (W.faults sink.new) }
 {
-    keep(alloc, text, output)?;
+    push_line(text, output)?;
     pour(sink, text)?;
     Ok(())
 }
@@ -95,19 +85,18 @@ fn write_line<W: Sink>(
 /// Keeps back or writes the lines of outputs, in order.
 #[tactic(auto, using(crate::proofs::Batches::none_kept, crate::proofs::Batches::one_more, crate::proofs::Batches::cut_within, crate::proofs::Batches::all_kept))]
 fn write_lines<W: Sink>(
-    alloc: Global,
     sink: &mut W,
-    text: &mut Vec<u8>,
+    text: &mut TextWriter,
     outputs: &[Output],
 ) -> Result<(), WriteError>
-    requires { text.old.items ≡ [] }
+    requires { text.old ≡ [] }
     ensures observed { Observed (W.tells sink.new) (W.tells sink.old)
-        (Pours result (lines_of outputs.now) text.new.items (W.taken sink.old) (W.taken sink.new)) }
+        (Pours result (lines_of outputs.now) text.new (W.taken sink.old) (W.taken sink.new)) }
     ensures later { W.faults sink.old ≤ W.faults sink.new }
     ensures cause { WroteFaults result (W.faults sink.old) (W.faults sink.new) }
 {
     for output in outputs {
-        write_line(alloc, sink, text, output)?;
+        write_line(sink, text, output)?;
     }
     Ok(())
 }
@@ -124,8 +113,8 @@ pub fn write_outputs<W: Sink>(
     ensures later { W.faults sink.old ≤ W.faults sink.new }
     ensures cause { WroteFaults result (W.faults sink.old) (W.faults sink.new) }
 {
-    let mut text = Vec::new(alloc);
-    write_lines(alloc, sink, &mut text, outputs)?;
+    let mut text = TextWriter::new(alloc);
+    write_lines(sink, &mut text, outputs)?;
     write_all(sink, text.as_slice())?;
     Ok(())
 }

@@ -1,7 +1,6 @@
 //! Networks whose clients need a good cookie.
 
 ghost use Rattle.std.specs.Prelude.{◌≡◌};
-ghost use Rattle.dns_name.specs.Addresses.{address_octets};
 ghost use Rattle.dns_fronts.specs.Networks.{is_in_any, is_in_network};
 
 use dns_kinds::ClientSubnet;
@@ -21,17 +20,7 @@ impl Network {
     {
         let one = ClientSubnet::new(self.bits, 0, address).addr();
         let other = ClientSubnet::new(self.bits, 0, self.address).addr();
-        octets_of(&one) == octets_of(&other)
-    }
-}
-
-/// The octets of an address.
-fn octets_of(address: &IpAddr) -> &[u8]
-    ensures { result.now ≡ address_octets address.now }
-{
-    match address {
-        IpAddr::V4(octets) => octets,
-        IpAddr::V6(octets) => octets,
+        one.as_slice() == other.as_slice()
     }
 }
 

@@ -10,6 +10,7 @@ ghost use Rattle.dns_flood.specs.Writes.{Pours, Wrote, WroteFaults};
 use dns_flood::{Ask, CachedRules, Rules, Script, WriteError, pour};
 use dns_io::{Sink, write_all};
 use dns_name::OutOfMemory;
+use dns_trace::TextWriter;
 use std::alloc::Global;
 
 /// Asks a question, and gives its line.
@@ -23,16 +24,15 @@ fn ask_line(alloc: Global, rules: &mut CachedRules, ask: Ask) -> Result<String, 
 /// Keeps the line of a question's answer back, after others.
 fn keep_answer(
     alloc: Global,
-    text: &mut Vec<u8>,
+    text: &mut TextWriter,
     rules: &mut CachedRules,
     ask: Ask,
 ) -> Result<(), OutOfMemory>
-    ensures line { OnOk result (text.new.items ≡ text.old.items ++ asked_line rules.old ask) }
+    ensures line { OnOk result (text.new ≡ text.old ++ asked_line rules.old ask) }
     ensures cached { OnOk result (rules.new ≡ asked_behind rules.old ask) }
 {
     let line = ask_line(alloc, rules, ask)?;
-    text.extend_from_slice(line.as_bytes())?;
-    Ok(())
+    text.append(line.as_bytes())
 }
 
 /// Appends the line of a question's answer to those kept back, and writes them all if they are many.
@@ -40,12 +40,12 @@ fn keep_answer(
 fn write_answer<W: Sink>(
     alloc: Global,
     sink: &mut W,
-    text: &mut Vec<u8>,
+    text: &mut TextWriter,
     rules: &mut CachedRules,
     ask: Ask,
 ) -> Result<(), WriteError>
     ensures observed { Observed (W.tells sink.new) (W.tells sink.old)
-        (Pours result (text.old.items ++ asked_line rules.old ask) text.new.items (W.taken sink.old) (W.taken sink.new)) }
+        (Pours result (text.old ++ asked_line rules.old ask) text.new (W.taken sink.old) (W.taken sink.new)) }
     ensures later { W.faults sink.old ≤ W.faults sink.new }
     ensures cause { WroteFaults result (W.faults sink.old) (W.faults sink.new) }
     ensures cached { OnOk result (rules.new ≡ asked_behind rules.old ask) }
@@ -60,13 +60,13 @@ fn write_answer<W: Sink>(
 fn write_each<W: Sink>(
     alloc: Global,
     sink: &mut W,
-    text: &mut Vec<u8>,
+    text: &mut TextWriter,
     rules: &mut CachedRules,
     asks: Vec<Ask>,
 ) -> Result<(), WriteError>
-    requires { text.old.items ≡ [] }
+    requires { text.old ≡ [] }
     ensures observed { Observed (W.tells sink.new) (W.tells sink.old)
-        (Pours result (asked_text rules.old asks.items) text.new.items (W.taken sink.old) (W.taken sink.new)) }
+        (Pours result (asked_text rules.old asks.items) text.new (W.taken sink.old) (W.taken sink.new)) }
     ensures later { W.faults sink.old ≤ W.faults sink.new }
     ensures cause { WroteFaults result (W.faults sink.old) (W.faults sink.new) }
 {
@@ -88,7 +88,7 @@ fn write_asks<W: Sink>(
         (Wrote result (asked_text rules.old asks.items) (W.taken sink.old) (W.taken sink.new)) }
     ensures cause { WroteFaults result (W.faults sink.old) (W.faults sink.new) }
 {
-    let mut text = Vec::new(alloc);
+    let mut text = TextWriter::new(alloc);
     write_each(alloc, sink, &mut text, rules, asks)?;
     write_all(sink, text.as_slice())?;
     Ok(())

@@ -42,8 +42,8 @@ pub use dns_flood::{
     ScriptAnswer, ScriptAnswers, ScriptError, ScriptFuture, ScriptLine, ScriptReply, ScriptService,
     ScriptStream, ScriptTarget, ScriptTurns, ScriptVerdict, Scripted, ServiceLines, UpstreamLine,
     UpstreamWord, Upstreams, WriteError, count_flood, event_at, layered, line, next_event,
-    next_number, read_script, refusal, script_text, serve_script, summary, write_outputs,
-    write_refusal,
+    next_number, push_line, read_script, refusal, script_text, serve_script, summary,
+    write_outputs, write_refusal,
 };
 pub use program::run;
 pub use serve_words::{ServeWords, read_serve};

@@ -5,11 +5,6 @@ use Rattle.dns_trace.specs.declared.reason.Reason.{Reason}
 use Rattle.dns_script.specs.declared.script.ScriptError.{ScriptError}
 use Rattle.dns_script.specs.declared.script.ScriptError.TheVariants.{OutOfMemory, Refused}
 
--- a value, unless what was looked at refuses it
-abbrev pub kept : {A E : Type 0} → A → Result (Unit {0}) E → Result A E
-kept x (Ok u) = Ok x
-kept x (Err e) = Err e
-
 abbrev pub RefusesScript : {A : Type 0} → ScriptError → Result A (ℕ × Reason) → Type 0
 RefusesScript OutOfMemory read = Unit {0}
 RefusesScript (Refused n r) read = read ≡ Err (n, r)

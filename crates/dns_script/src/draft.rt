@@ -6,7 +6,6 @@ ghost use Rattle.dns_zone.specs.ZoneErrors.{zone_error};
 ghost use Rattle.dns_trace.specs.Reading.{GivesLine, TakesLine};
 ghost use Rattle.dns_script.specs.Draft.{empty_draft, finished, made_zone, may_be_rule, may_be_upstream, may_be_zone, record_more, service_by, with_zone_record, with_service, zone_refused};
 
-use crate::line_checks::kept;
 use crate::rule::{Rule, Rules};
 use crate::script::Script;
 use crate::service_lines::ServiceLines;
@@ -150,7 +149,7 @@ impl<E: Drop> Draft<E> {
         } = self;
         let mut script = script;
         let served = serve(alloc, &mut script, rules, upstreams, zone);
-        kept(script, served)
+        served.and(Ok(script))
     }
 }
 

@@ -1,12 +1,12 @@
 //! Scripts: what a text says, the service that plays it, and the lines of what its clients are sent.
 //!
 //! - `read_script` reads a script of settings, of rules, upstreams or a zone, of a target and of events or steps.
-//! - `serve_script` serves it, and `line` writes an output. `script_text` writes a script in one spelling.
+//! - `serve_script` serves it, and `push_line` writes an output. `script_text` writes a script in one spelling.
 //! - `ScriptService` plays rules, and `ScriptTarget` the verdicts on NOTIFY.
 //! - `CachedRules` puts a cache in front of rules, for questions.
 //!
 //! ```text
-//! text -> read_script -> Script -> serve_script -> outputs -> line
+//! text -> read_script -> Script -> serve_script -> outputs -> push_line
 //! ```
 //!
 //! # What is proved
@@ -55,7 +55,7 @@ pub use ask::Ask;
 pub use cached_rules::CachedRules;
 pub use laws::{a_script_reads_back, a_trace_is_a_script};
 pub use notify_rule::{NotifyRule, NotifyRules};
-pub use output_line::{line, refusal};
+pub use output_line::{line, push_line, refusal};
 pub use reader::read_script;
 pub use rule::{Rule, Rules, ScriptAnswer, ScriptAnswers, ScriptReply};
 pub use rule_list::RuleList;

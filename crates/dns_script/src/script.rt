@@ -23,13 +23,6 @@ pub enum ScriptError {
     Refused { line: u64, reason: Reason },
 }
 
-/// A value in the place of another.
-fn put<T: Drop>(place: &mut T, value: T)
-    ensures { place.new ≡ value }
-{
-    *place = value;
-}
-
 /// The settings, the service, the rules of the target, and the events, or the steps.
 #[derive(Drop)]
 pub struct Script<E> {
@@ -95,7 +88,7 @@ impl<E: Drop> Script<E> {
     pub fn set_service(&mut self, service: ServiceLines)
         ensures { self.new ≡ record self.old { service = service } }
     {
-        put(&mut self.service, service);
+        self.service = service;
     }
 
     /// One rule of the target more.

@@ -26,14 +26,7 @@ impl ServiceLines {
     {
         match self {
             ServiceLines::Rules(rules) => rules,
-            other => instead(other, Rules::new(alloc)),
+            ServiceLines::Upstreams(_) | ServiceLines::Zone(_) => Rules::new(alloc),
         }
     }
-}
-
-/// A value in place of another.
-fn instead<T: Drop, U>(_given: T, other: U) -> U
-    ensures { result ≡ other }
-{
-    other
 }

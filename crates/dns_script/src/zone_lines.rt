@@ -11,7 +11,7 @@ ghost use Rattle.dns_trace.specs.Reading.{GivesLine, TakesLine, unless};
 ghost use Rattle.dns_script.specs.ServiceLines.{GivesRead, read_alone, record_line, record_with_owner, record_words, resource_of, written_uncompressed, zone_line};
 
 use crate::draft::Draft;
-use crate::line_checks::{before_events, kept};
+use crate::line_checks::before_events;
 use dns_base::{ParseError, Record, record_in};
 use dns_name::{Name, OutOfMemory};
 use dns_trace::{LineError, Reason, Words, decimal, name, octets, port, unless};
@@ -108,7 +108,7 @@ fn written_uncompressed(alloc: Global, resource: Record, rdata: &[u8]) -> Result
     ensures lawful { IfOk result (λ r. IsLawful r.rdata) }
 {
     let written = written_as(alloc, &resource, rdata);
-    kept(resource, written)
+    written.and(Ok(resource))
 }
 
 /// The record of a line `record NAME TTL TYPE HEX`.

@@ -38,14 +38,14 @@ impl TextWriter {
     }
 
     /// Begins anew, in the memory that there is.
-    pub(crate) fn clear(&mut self)
+    pub fn clear(&mut self)
         ensures { self.new ≡ [] }
     {
         self.text.clear();
     }
 
     /// The text so far.
-    pub(crate) fn as_slice(&self) -> &[u8]
+    pub fn as_slice(&self) -> &[u8]
         ensures { result.now ≡ self.now }
     {
         self.text.as_slice()
@@ -154,9 +154,9 @@ impl TextWriter {
         Ok(())
     }
 
-    /// Hexadecimal digits after a space.
+    /// Two hexadecimal digits for each octet, in lower case, after a space.
     #[tactic(auto, using(crate::proofs::Starts::starts))]
-    pub(crate) fn hex(&mut self, octets: &[u8]) -> Result<(), OutOfMemory>
+    pub fn hex(&mut self, octets: &[u8]) -> Result<(), OutOfMemory>
         ensures ok { OnOk result (self.new ≡ self.old ++ 32 ∷ encode_lower octets.now) }
         ensures err { OnErr result (StartsWith self.new self.old) }
     {
